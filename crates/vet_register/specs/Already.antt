@@ -1,4 +1,4 @@
--- When what a command sets or adds is held already (ours).
+-- When the thing that a command sets or adds is already held (ours).
 use Rattle.std.specs.Prelude.{◌==◌, ◌&&◌, not, Bool, false, List, Some, if◌then◌else◌, filter, length}
 use Rattle.std.specs.Cmp.Lexicographic.{pointwise}
 use Rattle.std.specs.List.{list_all}
@@ -28,21 +28,21 @@ use Rattle.vet_register.specs.Held.{HeldValue, policy_at, project_at}
 use Rattle.vet_register.specs.Replacing.{tool_of_files}
 use Rattle.vet_register.specs.ToolSettings.{tool_eq}
 
--- whether a criterion is held as it is; of a built-in one nothing is asked
+-- whether an equal criterion is held; never true of a built-in name
 abbrev pub is_held : Criteria → Criterion → Bool
 is_held criteria c = if is_built_in c.name then false else option_eq criterion_eq (table.get criteria c.name) (Some c)
 
--- whether the settings of a peer are held as they are
+-- whether equal settings of a peer are held
 abbrev pub has_settings : List HeldPeer → PeerSettings → Bool
 has_settings peers settings =
     option_map_or (λ (p : HeldPeer). settings_eq p.settings settings) (peer_of peers settings.name) false
 
--- whether a peer is held with a content: the same criteria and the same entries, in whatever order
+-- whether a peer is held with a content: the same criteria and the same entries, in any order
 abbrev pub has_content : List HeldPeer → Name → PeerContentValue → Bool
 has_content peers name content =
     option_map_or (λ (p : HeldPeer). same_content name p.content content) (peer_of peers name) false
 
--- whether a policy is held as it is, and a project
+-- whether an equal policy is held, and an equal project
 abbrev pub has_policy : List KeyedPolicy → KeyedPolicy → Bool
 has_policy policies p = option_map_or (λ held. keyed_policy_eq held p) (policy_at policies p.key) false
 
@@ -51,13 +51,13 @@ has_project projects p = option_map_or (λ held. named_project_eq held p) (proje
 
 -- ---- what files hold
 
--- whether some criteria are those held beside the built-in ones: each is held, and there are as many
+-- whether some criteria are those held besides the built-in ones: each is held, and there are as many
 abbrev pub has_criteria : Criteria → List Criterion → Bool
 has_criteria criteria listed =
     (length listed == length (filter (λ n. not (is_built_in n)) (table.keys criteria)))
     && list_all (is_held criteria) listed
 
--- whether a peer is held with these settings, and with what an imports file says of it
+-- whether a peer is held with these settings, and with its content in an imports file
 abbrev pub has_peer : List HeldPeer → List ImportedPeer → PeerSettings → Bool
 has_peer peers contents settings =
     has_settings peers settings && has_content peers settings.name (content_for contents settings.name)
@@ -68,7 +68,7 @@ abbrev pub has_peers : List HeldPeer → FilesValue → Bool
 has_peers peers f =
     (length f.settings == length peers) && (list_all (has_peer peers f.contents) f.settings && each_is_set f)
 
--- whether the lists of files are held: publisher records, policies, and what is said to the tool alone
+-- whether the lists of files are held: publisher records, policies, and the settings for the tool
 abbrev pub has_lists : HeldValue → FilesValue → Bool
 has_lists held f =
     pointwise package_eq held.facts.publishers f.publishers

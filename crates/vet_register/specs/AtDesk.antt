@@ -1,9 +1,9 @@
--- What the register adds to a command to its desk (ours): the own entry that finishes a review, and its number.
+-- The own entry that finishes a review, and its number: the register's part of a command to its desk (ours).
 --
--- A command to the desk has its effect there (desk_by; see Review desk). On the facts only FinishReview has one.
--- Where no own entry is held that is equal to the review's, that entry is added as by AddEntry (added_by,
--- with_entry). The finished review has its number, else that of the first entry that is equal (entry_number).
--- ClosePeriod leaves the facts and the desk.
+-- A command to the desk has its effect there (desk_by; see Review desk). Only FinishReview has an effect on the facts.
+-- If no own entry is held that is equal to the review's, that entry is added as by AddEntry (added_by, with_entry). The
+-- finished review has its number, otherwise that of the first entry that is equal (entry_number). ClosePeriod keeps the
+-- facts and the desk.
 use Rattle.std.specs.Prelude.{ℕ, Bool, true, false, Option, Some, None, option_map}
 use Rattle.std.specs.Option.{unwrap_or}
 use Rattle.vet_entries.specs.declared.entry.Entry.{Entry}
@@ -32,13 +32,13 @@ if_new facts (Some entry) = unless_held (number_of facts.entries entry) entry
 abbrev pub added_by : State → DeskCommand → Option Entry
 added_by s command = if_new s.held.facts (entry_of s.desk command)
 
--- the number of the entry of the review that a command finishes: that under which an equal one is held, or else the
+-- the number of the entry of the review that a command finishes: that under which an equal one is held, otherwise the
 -- next
 abbrev pub entry_number : State → DeskCommand → Option ℕ
 entry_number s command =
     option_map (λ e. unwrap_or (number_of s.held.facts.entries e) s.next_entry) (entry_of s.desk command)
 
--- the number that a command is told: that of the review that it opens, or of the entry of the one that it finishes
+-- the number in a command's outcome: that of the review that it opens, or of the entry of the one that it finishes
 abbrev pub number_told : State → DeskCommand → Option ℕ
 number_told s (OpenReview name version criteria) = Some s.desk.next_review
 number_told s command = entry_number s command

@@ -1,4 +1,4 @@
--- What a prepared change makes of a state (ours): one equation for all commands.
+-- The state after a prepared change (ours): one equation for all commands.
 use Rattle.std.specs.Prelude.{ℕ, ◌++◌, ◌≤◌, List, [], Option, Some, None, length}
 use Rattle.vet_demand.specs.declared.pair.Pair.{Pair}
 use Rattle.vet_desk.specs.Desk.{DeskState}
@@ -12,7 +12,7 @@ use Rattle.vet_register.specs.declared.moves.Recording.TheVariants.{Behind, Anew
 use Rattle.vet_register.specs.Held.{edited}
 use Rattle.vet_register.specs.State.{State}
 
--- the demand, unless there is another
+-- the other demand, if there is one, otherwise this one
 abbrev pub demand_by : Option (List Pair) → List Pair → List Pair
 demand_by None demand = demand
 demand_by (Some other) demand = other
@@ -22,7 +22,7 @@ abbrev pub desk_edited : Option DeskEdit → DeskState → DeskState
 desk_edited None desk = desk
 desk_edited (Some edit) desk = desk_changed edit.change edit.entry desk
 
--- the recorded moves, and the counts at first, after a recording
+-- the recorded moves, and the first counts, after a recording
 abbrev pub moves_by : Recording → List RecordedMove → List RecordedMove
 moves_by (Behind more) moves = moves ++ more.items
 moves_by (Anew counts) moves = []

@@ -1,11 +1,11 @@
--- The class of a pair where one audits file is all that is held, or the first fault (ours).
+-- The class of a pair if only one audits file is held, or the first fault (ours).
 --
 -- class_told checks in this order: the words (pair_told), the size and the content of the file (content_told), and then
 -- the criteria (checked). The file is read as "Content of a file" says (audits_told): an unknown key, a skipped entry
 -- and a double refuse nothing. 9 applies if there are more than MOST_CRITERIA, including the built-in ones (counted). 6
--- has the least name that is not a criterion (unknown_name), among the criterion asked for, what the file's criteria
--- imply, and the criteria of its entries of all kinds; a skipped entry does not count. The facts are then the table of
--- the file's criteria and its entries, as own ones, numbered from 1 as they are read, without a register's day
+-- has the least name that is not a criterion (unknown_name), among the criterion asked for, those that the file's
+-- criteria imply, and the criteria of its entries of all kinds; a skipped entry does not count. The facts are then the
+-- table of the file's criteria and its entries, as own ones, numbered from 1 as they are read, without a register's day
 -- (facts_of). The class is that of the pair by these facts (IsClassOfFile). There are no publisher records among them,
 -- so no wildcard or trusted entry gives a step. There are no exemptions, so the class is never Partial or Exempted, and
 -- no day matters.
@@ -29,11 +29,11 @@ use Rattle.vet_graph.specs.StandingOf.{class_of_pair}
 use Rattle.vet_graph.specs.declared.class.Class.{Class}
 use Rattle.vet_register.specs.NamesOfFiles.{counted, unknown_of_entries}
 
--- a name that isn't known
+-- the name, if it isn't known
 abbrev pub unknown_in : (Name → Bool) → Name → Option Name
 unknown_in known name = if known name then None else Some name
 
--- the least name that isn't known, of a word, of what a file's criteria imply and of its entries' criteria
+-- the least unknown name, among a word, the names that a file's criteria imply and its entries' criteria
 abbrev pub unknown_name : (Name → Bool) → Name → AuditsContent → Option Name
 unknown_name known word content =
     unknown_of_entries known (lesser (unknown_in known word) (least_undefined known content.criteria)) content.entries
@@ -44,7 +44,7 @@ checked word content =
     counted (defined content.criteria) >>= λ _.
     known (unknown_name (map.contains_key (defined content.criteria)) word content)
 
--- all that is held, where this is the file's content
+-- the facts that are held, if this is the file's content
 abbrev pub facts_of : AuditsContent → Facts
 facts_of content = record {
   criteria = defined content.criteria;
@@ -71,12 +71,12 @@ pair_told name version criterion =
     found_or BadName (read_name criterion) >>= λ criterion.
     Ok (record { «package» = name; version = version; criterion = criterion })
 
--- the words go first, then the file, then the criteria
+-- the words are checked first, then the file, then the criteria
 abbrev pub class_told : Bytes → Name → Text → Name → Told Class
 class_told file name version criterion =
     pair_told name version criterion >>= λ p. content_told file >>= λ content. class_in content p
 
--- the words name a pair, the file tells its content, and this is the pair's class by all that is held then
+-- the words name a pair, the file has a content, and this is the pair's class by the facts that are then held
 pub record IsClassOfFile (file : Bytes) (name : Name) (version : Text) (criterion : Name) (class : Class) : Type 0 where
   pub pair : Pair
   pub content : AuditsContent

@@ -1,9 +1,9 @@
--- All that classes and the demand depend on (ours): facts of packages, policies and projects, and edits of them. Beside
--- these stands what a config file says to the tool alone.
+-- Everything that classes and the demand depend on (ours): facts of packages, policies and projects, and edits of them;
+-- and besides these, the settings of a config file that are for the tool only.
 --
--- Beside the facts of packages are held the policies and the projects (HeldValue, Held). Policies stand in the order
--- of their keys, and projects in the order of their names. Each edit of all that is held takes no memory, and there
--- is one that undoes it (HeldEdit).
+-- Policies and projects are held besides the facts of packages (HeldValue, Held). Policies are in the order of their
+-- keys, and projects in the order of their names. Each edit of what is held takes no memory, and there is one that
+-- undoes it (HeldEdit).
 use Rattle.std.specs.Prelude.{ℕ, ◌≤◌, Bool, true, false, List, [], Option}
 use Rattle.std.specs.Cmp.Lexicographic.{slice_cmp}
 use Rattle.std.specs.Ordering.{nat_cmp}
@@ -28,19 +28,19 @@ use Rattle.vet_register.specs.declared.held.HeldEdit.TheVariants as edit
 use Rattle.vet_register.specs.ToolSettings.{no_settings}
 use Rattle.vet_register.specs.declared.tool_settings.ToolSettings.{ToolSettings}
 
--- facts of packages, policies in the order of their keys, projects in the order of their names, and what a config file
--- says to the tool alone
+-- facts of packages, policies in the order of their keys, projects in the order of their names, and the settings of a
+-- config file that are for the tool only
 pub record HeldValue : Type 0 where
   pub facts : Facts
   pub policies : List KeyedPolicy
   pub projects : List NamedProject
   pub settings : ToolSettings
 
--- nothing but the built-in criteria
+-- only the built-in criteria
 abbrev pub nothing_held : HeldValue
 nothing_held = record { facts = no_facts; policies = []; projects = []; settings = no_settings }
 
--- what the projects demand, by the policies and the criteria
+-- the demand of the projects, by the policies and the criteria
 abbrev pub demand_in : HeldValue → List Pair
 demand_in held = demand_of held.projects held.policies held.facts.criteria
 
@@ -70,7 +70,7 @@ without_project name projects = without_item (slice_cmp nat_cmp) project_name pr
 
 -- ---- edits
 
--- what is held after an edit
+-- everything that is held after an edit
 abbrev pub edited : HeldEdit → HeldValue → HeldValue
 edited (edit.Facts change) held = record held { facts = facts.edited change held.facts }
 edited (edit.Policies change) held = record held { policies = keyed.edited change held.policies }
@@ -79,13 +79,13 @@ edited edit.Nothing held = held
 edited (edit.Files files) held =
     record held { facts = files.facts.content; policies = files.policies.items; settings = files.settings }
 
--- for how much more there is room
+-- the room for more
 pub record HeldRoom : Type 0 where
   pub facts : Room
   pub policies : ℕ
   pub projects : ℕ
 
--- what is held, and for how much more there is room
+-- the things held, and the room for more
 abbrev pub content_of : Held → HeldValue
 content_of held = record {
   facts = held.facts.content;
@@ -97,7 +97,7 @@ content_of held = record {
 abbrev pub room_of : Held → HeldRoom
 room_of held = record { facts = held.facts.room; policies = held.policies.room; projects = held.projects.room }
 
--- both together
+-- the two together
 abbrev pub held_with : HeldValue → HeldRoom → Held
 held_with value room = record {
   facts = record { content = value.facts; room = room.facts };
@@ -114,12 +114,12 @@ Fits (edit.Projects change) held = keyed.Fits (slice_cmp nat_cmp) project_name c
 Fits edit.Nothing held = Unit {0}
 Fits (edit.Files files) held = Unit {0}
 
--- where there is room for something in the old, there is in the new
+-- if there is room for something in the old, there is in the new
 abbrev pub HoldsRoomOf : HeldRoom → HeldRoom → Type 0
 HoldsRoomOf old new =
     facts.HoldsRoomOf old.facts new.facts × ((old.policies ≤ new.policies) × (old.projects ≤ new.projects))
 
--- whether the demand stays by an edit, whatever is held
+-- whether an edit keeps the demand, whatever is held
 abbrev pub keeps_demand : HeldEdit → Bool
 keeps_demand (edit.Facts change) = facts.keeps_criteria change
 keeps_demand (edit.Policies change) = false
@@ -135,16 +135,16 @@ room_after (edit.Projects change) room = record room { projects = keyed.room_aft
 room_after edit.Nothing room = room
 room_after (edit.Files files) room = record room { facts = files.facts.room; policies = files.policies.room }
 
--- an edit that fits still does where the same is held, and no room is lost
+-- an edit that fits still fits if the same is held and no room is lost
 abbrev pub HeldEditsFit : Type 0
 HeldEditsFit =
     (e : HeldEdit) (held : HeldValue) (old new : HeldRoom)
     → HoldsRoomOf old new → Fits e (held_with held old) → Fits e (held_with held new)
 
--- no room is lost where nothing happens
+-- no room is lost if nothing happens
 abbrev pub HeldRoomItself : Type 0
 HeldRoomItself = (room : HeldRoom) → HoldsRoomOf room room
 
--- nor by one thing after another, each of which loses none
+-- no room is lost by one thing after another if neither loses any
 abbrev pub HeldRoomOnward : Type 0
 HeldRoomOnward = (a b c : HeldRoom) → HoldsRoomOf a b → HoldsRoomOf b c → HoldsRoomOf a c

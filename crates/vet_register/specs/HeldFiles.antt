@@ -1,4 +1,4 @@
--- What the files of a register hold (The Cargo Vet Book, audits.toml, config.toml and imports.lock).
+-- The contents of a register's files (The Cargo Vet Book, audits.toml, config.toml and imports.lock).
 use Rattle.std.specs.Prelude.{not, Bool, List, Option, None, if◌then◌else◌, filter, map}
 use Rattle.std.specs.FinMap as table
 use Rattle.vet_base.specs.Criteria.{Criteria}
@@ -23,7 +23,7 @@ use Rattle.vet_register.specs.Held.{HeldValue}
 
 -- ---- audits files
 
--- the criterion of a name, where a table has one that is not built in
+-- the criterion of a name, if a table has one that is not built in
 abbrev pub further_at : Criteria → Name → Option Criterion
 further_at criteria name = if is_built_in name then None else table.get criteria name
 
@@ -38,7 +38,7 @@ is_audit e = not (is_exemption e)
 abbrev pub unnumbered : List HeldEntry → List Entry
 unnumbered held = map (λ (h : HeldEntry). h.entry) held
 
--- what an audits file of the register holds: the criteria beside the built-in ones, and own entries but the exemptions
+-- the content of the register's audits file: the criteria besides the built-in ones, and own entries except exemptions
 abbrev pub audits_of : Facts → AuditsContent
 audits_of facts = record { criteria = further facts.criteria; entries = filter is_audit (unnumbered facts.entries) }
 
@@ -48,8 +48,8 @@ audits_of facts = record { criteria = further facts.criteria; entries = filter i
 abbrev pub settings_of : Facts → List PeerSettings
 settings_of facts = map (λ (p : HeldPeer). p.settings) facts.peers
 
--- what a config file of the register holds: what it says to the tool alone, how peers are imported, the policies, and
--- own exemptions; the writer leaves out those with a last day
+-- the content of the register's config file: the settings for the tool, how peers are imported, the policies, and own
+-- exemptions; the writer leaves out those with a last day
 abbrev pub config_of : HeldValue → ConfigContent
 config_of held = record {
   vet_version = held.settings.vet_version;
@@ -61,11 +61,11 @@ config_of held = record {
 
 -- ---- imports files
 
--- held entries without their numbers, each as its organisation speaks of it
+-- held entries without their numbers, each as an own entry
 abbrev pub spoken : List HeldEntry → List Entry
 spoken held = map (λ h. own h.entry) held
 
--- what is held of a peer, as its file gives it: the criteria beside the built-in ones, and the entries
+-- the holding of a peer, as its file gives it: the criteria besides the built-in ones, and the entries
 abbrev pub content_of : HoldingValue → PeerContentValue
 content_of held = record { criteria = further held.table; entries = spoken held.entries }
 
@@ -73,6 +73,6 @@ content_of held = record { criteria = further held.table; entries = spoken held.
 abbrev pub imported_of : HeldPeer → ImportedPeer
 imported_of peer = record { name = peer.settings.name; content = content_of peer.content }
 
--- what an imports file of the register holds: all publisher records, and what is held of each peer
+-- the content of the register's imports file: all publisher records, and the holding of each peer
 abbrev pub imports_of : Facts → ImportsContent
 imports_of facts = record { publishers = facts.publishers; peers = map imported_of facts.peers }

@@ -1,4 +1,4 @@
--- What is found of an import before it is made (ours).
+-- The verdict on an import, and how it compares with what is held (ours).
 use Rattle.std.specs.Prelude.{◌≡◌, ◌⊎◌, MatchOption, MatchResult, Option, Ok, Err, None, Result}
 use Rattle.vet_base.specs.Day.{DayValue}
 use Rattle.vet_base.specs.Words.{Name}
@@ -13,15 +13,15 @@ use Rattle.vet_register.specs.Machine.{held_of}
 use Rattle.vet_register.specs.State.{State}
 use Rattle.vet_register.specs.Verdict.{judged}
 
--- an import is accepted, and this is how its content stands to what is held of the peer
+-- an import is accepted, and this is how its content compares with what is held of the peer
 pub record IsAccepted (s : State) (day : DayValue) (name : Name) (content : PeerContentValue) (c : ComparisonValue)
     : Type 0 where
   pub told : judged s day (ImportPeer name content) ≡ Ok Accepted
   pub held : IsHeld name s.held.facts
   pub compared : c ≡ compared name (held_of s.held.facts name) content
 
--- the answer is what is judged, with how the content stands to what is held where that is accepted; or memory is
--- wanting
+-- the answer is the verdict (judged), with how the content compares with what is held if the import is accepted; or
+-- memory ran out
 abbrev pub IsJudgedImport : State → DayValue → Name → PeerContentValue → Result (Option ComparisonValue) Refusal
     → Type 0
 IsJudgedImport s day name content answer = MatchResult answer

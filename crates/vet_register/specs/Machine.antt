@@ -1,27 +1,27 @@
--- One step of the machine: what an accepted command makes of a state (ours).
+-- One step of the machine: the state after an accepted command (ours).
 --
--- A step (next) is that of the definitions, by held_after, desk_by, number_after, first_after and moves_after; it
--- leaves the limit. Only ClosePeriod ends a period (ends_period): after it the first counts are the present ones, and
--- no move is recorded. After each other command the first counts are as before, and its moves (records_of) come
--- behind those recorded. An import gives as many numbers of entries as it has new entries, and so do files.
--- FinishReview gives one where its entry is added, and none where an equal one is held (numbers_given). A recorded
--- move (RecordedMove) is the move with the step and the day of its command.
+-- A step (next) is that of the definitions, by held_after, desk_by, number_after, first_after and moves_after; it keeps
+-- the limit. Only ClosePeriod ends a period (ends_period): after it the first counts are the present ones, and no move
+-- is recorded. After each other command the first counts are as before, and its moves (records_of) come after those
+-- recorded. An import takes as many numbers of entries as it has new entries, and so do files. FinishReview takes one
+-- if its entry is added, and none if an equal one is held (numbers_given). A recorded move (RecordedMove) is the move
+-- with the step and the day of its command.
 --
 -- The outcome of an accepted command (outcome_of) is its step, perhaps a number, and how many pairs it moved. The
--- number (number_given, number_told) is that of the entry that AddEntry made, or of the review that OpenReview
--- opened. For FinishReview it is that of the review's entry, be it new or held before. All others tell none.
+-- number (number_given, number_told) is that of the entry that AddEntry made, or of the review that OpenReview opened.
+-- For FinishReview it is that of the review's entry, whether new or held before. All other commands have none.
 --
--- The first counts are zeros (no_counts) until a period ends, and then the present ones of that time (first_after).
+-- The first counts are zeros (no_counts) until a period ends, and then the present counts of that time (first_after).
 --
 -- A command is a day and an action (Command, Action). The actions are SetCriterion, RemoveCriterion, AddEntry,
 -- DropEntry, SetPeer, DropPeer, ImportPeer, SetPublishers, SetPolicy, DropPolicy, LoadProject, DropProject,
 -- ReplaceFiles, Desk, ClosePeriod and SetDay. Desk holds a command to the review desk. AddEntry puts its entry at the
--- end of the list under the next number, as an own one whatever source it names. DropEntry takes out the own entry of
--- its number. SetPeer sets the settings of a peer. DropPeer takes the peer out with all that is held of it. ImportPeer
+-- end of the list under the next number, as an own one whatever source it names. DropEntry removes the own entry of its
+-- number. SetPeer sets the settings of a peer. DropPeer removes the peer with everything that is held of it. ImportPeer
 -- imports its content, as the peer's whatever source the entries name. SetPublishers sets the records of its package.
 -- SetDay makes the day of the command the register's day (effect). SetPolicy and LoadProject put a policy or a project
 -- where its key or name belongs, in place of the one that is there. DropPolicy and DropProject remove it (policies_by,
--- projects_by, held_after). The definitions take the day of a command beside its action, but only SetDay has an effect
+-- projects_by, held_after). The definitions take the day of a command besides its action, but only SetDay has an effect
 -- that depends on it. The keeper gets the packages that the command touches (touched_by).
 use Rattle.std.specs.Prelude.{ℕ, ◌+◌, ◌++◌, not, Bool, true, false, List, [], ◌∷◌, Option, Some, None, if◌then◌else◌}
 use Rattle.std.specs.Prelude.{length, filter, map}
@@ -71,11 +71,11 @@ CommandValue = Command
 abbrev pub ActionValue : Type 0
 ActionValue = Action
 
--- what is held of the peer of a name: of a new one, nothing
+-- the holding of the peer of a name; nothing for a new one
 abbrev pub held_of : Facts → Name → HoldingValue
 held_of facts name = holding_or_none (peer_of facts.peers name)
 
--- the facts with an own entry more, of this number, if there is one
+-- the facts with one own entry more, if there is one, under this number
 abbrev pub with_entry : ℕ → Option Entry → Facts → Facts
 with_entry number None facts = facts
 with_entry number (Some entry) facts =
@@ -115,7 +115,7 @@ projects_by (LoadProject project) projects = with_project project projects
 projects_by (DropProject name) projects = without_project name projects
 projects_by _ projects = projects
 
--- and on what is said to the tool alone
+-- and on the settings for the tool
 abbrev pub settings_by : Action → ToolSettings → ToolSettings
 settings_by (ReplaceFiles files) settings = tool_of_files files
 settings_by _ settings = settings
@@ -124,7 +124,7 @@ settings_by _ settings = settings
 abbrev pub facts_after : State → DayValue → Action → Facts
 facts_after s day action = effect s day action s.held.facts
 
--- what is held after a command
+-- everything that is held after a command
 abbrev pub held_after : State → DayValue → Action → HeldValue
 held_after s day action = record {
   facts = facts_after s day action;
@@ -166,15 +166,15 @@ touched_by s day (Desk command) = only_at (package_added (added_by s command))
 touched_by s day ClosePeriod = only_at []
 touched_by s day SetDay = only_at (packages_lapsing s.held.facts day)
 
--- the number that a command is told: that of the entry that it makes, of a review that it opens, or of the entry of one
--- that it finishes; an import tells none, nor do files
+-- the number in a command's outcome: that of the entry that it adds, of a review that it opens, or of the entry of one
+-- that it finishes; an import has none, nor do files
 abbrev pub number_given : State → Action → Option ℕ
 number_given s (AddEntry entry) = Some s.next_entry
 number_given s (Desk command) = number_told s command
 number_given s _ = None
 
--- how many numbers of entries a command gives: one to an entry that is added, and one to each that is new in an import
--- or in files
+-- how many numbers of entries a command takes: one for an entry that is added, and one for each that is new in an
+-- import or in files
 abbrev pub numbers_given : State → Action → ℕ
 numbers_given s (AddEntry entry) = 1
 numbers_given s (ImportPeer name content) =
@@ -195,12 +195,12 @@ recorded step day change = record { step = step; day = day; change = change }
 abbrev pub records_of : State → Command → List RecordedMove
 records_of s c = map (recorded (s.step + 1) c.day) (moves_of s c.day c.action)
 
--- a command ends the period: another begins, with the counts that are present, and without a move
+-- a command ends the period: another begins, with the present counts, and without a move
 abbrev pub ends_period : Action → Bool
 ends_period ClosePeriod = true
 ends_period _ = false
 
--- the counts at first after a command, and the moves since
+-- the first counts after a command, and the recorded moves
 abbrev pub first_after : State → Action → Counts
 first_after s action = if ends_period action then counts_of (standing s) else s.first
 
@@ -222,6 +222,6 @@ next s c = record s {
   moves = moves_after s c;
 }
 
--- what an accepted command is told: its step, its number, and how many moves it made
+-- the outcome of an accepted command: its step, its number, and how many moves it made
 abbrev pub outcome_of : State → Command → Outcome
 outcome_of s c = Done (s.step + 1) (number_given s c.action) (length (moves_of s c.day c.action))

@@ -1,4 +1,4 @@
--- The criteria that files name and none of them defines (ours).
+-- The criteria that files name and do not define (ours).
 use Rattle.std.specs.Prelude.{Bool, not, nat_lt, List, Option, None, Ok, Err, if◌then◌else◌, find, fold}
 use Rattle.std.specs.FinMap as map
 use Rattle.std.specs.FinSet as set
@@ -17,34 +17,34 @@ use Rattle.vet_entries.specs.declared.peer_settings.PeerSettings.{PeerSettings}
 use Rattle.vet_entries.specs.PeerWords.{targets}
 use Rattle.vet_files.specs.FilesContent.{FilesValue}
 
--- a table has at most so many criteria
+-- a table has at most MOST_CRITERIA criteria
 abbrev pub counted : Criteria → Told (Unit {0})
 counted table = if nat_lt MOST_CRITERIA (map.len table) then Err TooManyCriteria else Ok tt
 
--- the lesser of a name, if there is one, and the least of some names that isn't known
+-- the lesser of a name, if there is one, and the least unknown one of some names
 abbrev pub or_unknown : (Name → Bool) → Option Name → NameSet → Option Name
 or_unknown known least names = lesser least (find (λ n. not (known n)) (members names))
 
--- the least name that isn't known, of one handed in and of the criteria of some entries
+-- the lesser of a name, if there is one, and the least unknown name among the criteria of some entries
 abbrev pub unknown_of_entries : (Name → Bool) → Option Name → List Entry → Option Name
 unknown_of_entries known least entries = fold (λ least e. or_unknown known least e.criteria) least entries
 
--- of one handed in and of what some policies name
+-- the same of the names in some policies
 abbrev pub unknown_of_policies : (Name → Bool) → Option Name → List KeyedPolicy → Option Name
 unknown_of_policies known least policies = fold (λ least k. or_unknown known least (names_in k.policy)) least policies
 
--- of one handed in and of what the maps of some peers lead to
+-- the same of the targets of some peers' maps
 abbrev pub unknown_of_targets : (Name → Bool) → Option Name → List PeerSettings → Option Name
 unknown_of_targets known least peers = fold (λ least p. or_unknown known least (targets p.map)) least peers
 
--- the least name that isn't known, of what criteria imply, of what own entries and exemptions and policies name, and of
--- what the maps of peers lead to
+-- the least unknown name among those that criteria imply, those in own entries, exemptions and policies, and the
+-- targets of peers' maps
 abbrev pub unknown_of_files : (Name → Bool) → FilesValue → Option Name
 unknown_of_files known f =
     unknown_of_targets known
     (unknown_of_policies known (unknown_of_entries known (least_undefined known f.criteria) f.entries) f.policies)
     f.settings
 
--- a criterion that says nothing but its name
+-- a criterion that has only its name
 abbrev pub named_alone : Criterion → Criterion
 named_alone c = record { name = c.name; description = None; url = None; implies = set.empty }

@@ -1,19 +1,19 @@
--- What a register is seen as, and what was prepared for it (ours). This module alone of the machine's knows of room and
--- keepers.
+-- The value that a register is seen as, and prepared changes (ours). The modules State, Machine and Verdict know of no
+-- room and no keeper.
 --
 -- A register is seen as its state, its keeper and its rooms. The rooms are those of what is held and of the desk,
 -- and the number of further recorded moves that need no memory (RegisterView, Rooms). Keeper and rooms are no part
--- of the state. The keeper's standing is that of what is held, and the list of demanded pairs that the register
--- keeps is its demand (HasKept). What a change makes of a state (changed) has what is held after its edit, and the
--- desk after what it changes there (desk_edited). It has the change's step and next number. It has the recorded
--- moves with more behind them, or none and other first counts (moves_by, first_by). A change is prepared for a
--- command in a register (IsPrepared) if all of this holds. It is the command's step from this state (IsStep). That
--- is, the verdict accepts the command, and what the change makes of the state is the next one, which is sound. Its
--- demand, or the one before where it has none, is that of the next state. The keeper was told what the command
--- touches (touched_by), and the outcome is that of the command. There is room for its edit and moves (FitsMoves), the
--- desk prepared what changes there (HoldsDesk), and the keeper planned the update for the next state, and has the
--- room. What was prepared stays prepared when another command is prepared in between (KeepsPrepared). An answer to a
--- command is Already, or a change that is prepared for it (answer_of, IsAnswer).
+-- of the state. The keeper's standing is that of what is held, and the list of demanded pairs that the register keeps
+-- is its demand (HasKept). The state after a change (changed) holds what is held after its edit, and has the desk after
+-- its edit of the desk (desk_edited). It has the change's step and next number. It has the recorded moves with more
+-- after them, or none and other first counts (moves_by, first_by). A change is prepared for a command in a register
+-- (IsPrepared) if all of this holds. It is the command's step from this state (IsStep). That is, the verdict accepts
+-- the command, and the state after the change is the next one, which is sound. Its demand, or the one before if it has
+-- none, is that of the next state. The keeper was given the packages that the command touches (touched_by), and the
+-- outcome is that of the command. There is room for its edit and moves (FitsMoves), the desk prepared its change there
+-- (HoldsDesk), and the keeper planned the update for the next state, and has the room. A prepared change stays prepared
+-- if another command is prepared in between (KeepsPrepared). An answer to a command is Already, or a change that is
+-- prepared for it (answer_of, IsAnswer).
 use Rattle.std.specs.Prelude.{◌≡◌, ◌⊎◌, ℕ, ◌≤◌, Bool, true, false, List, Option, Some, None, is_some, Result, Ok, Err}
 use Rattle.std.specs.Prelude.{MatchResult}
 use Rattle.vet_base.specs.Day.{DayValue}
@@ -49,19 +49,19 @@ use Rattle.vet_register.specs.State.{State, demanded}
 use Rattle.vet_register.specs.Touches.{touched_with}
 use Rattle.vet_register.specs.Verdict.{verdict, wants_memory}
 
--- for how much more of what is held, of what is at the desk, and for how many more recorded moves, there is room
+-- the room for more of what is held, for more at the desk, and for more recorded moves
 pub record Rooms : Type 0 where
   pub held : HeldRoom
   pub desk : DeskRoom
   pub moves : ℕ
 
--- a register: its state, what keeps the classes, and its rooms
+-- a register: its state, the keeper of the classes, and its rooms
 pub record RegisterView (K : Type 0) : Type 0 where
   pub state : State
   pub keeper : K
   pub room : Rooms
 
--- what it holds, with its room
+-- everything that it holds, with its room
 abbrev pub held_room : {K : Type 0} → RegisterView K → Held
 held_room r = held_with r.state.held r.room.held
 
@@ -75,15 +75,14 @@ KeepsRoom old new =
     HoldsRoomOf old.room.held new.room.held
     × ((old.room.moves ≤ new.room.moves) × KeepsDeskChanges (desk_room old) (desk_room new))
 
--- an edit of a desk was prepared by it, which still holds the room for it, and has the number of an entry where it has
--- an entry
+-- the desk prepared this edit, and still has the room for it; the edit has a number exactly if its change has an entry
 pub record IsDeskEdit (d : DeskView) (e : DeskEdit) : Type 0 where
   pub day : DayValue
   pub command : DeskCommand
   pub prepared : IsDeskChange d day command e.change
   pub numbered : is_some e.entry ≡ is_some (entry_in e.change)
 
--- so was an edit, if there is one
+-- the same of an edit, if there is one
 abbrev pub HoldsDesk : Option DeskEdit → DeskView → Type 0
 HoldsDesk None d = Unit {0}
 HoldsDesk (Some e) d = IsDeskEdit d e
@@ -120,12 +119,12 @@ pub record IsPrepared {K U : Type 0} (keeping : Keeping K U) (r : RegisterView K
   pub move_room : FitsMoves change.recording r.room.moves
   pub plans : keeping.plans r.keeper change.update (next r.state c).held.facts (demanded (next r.state c))
 
--- what was prepared on the old register is prepared on the new one
+-- everything that was prepared on the old register is prepared on the new one
 abbrev pub KeepsPrepared : {K U : Type 0} → Keeping K U → RegisterView K → RegisterView K → Type 0
 KeepsPrepared {K} {U} keeping old new =
     (c : Command) (change : Change K U) → IsPrepared keeping old c change → IsPrepared keeping new c change
 
--- what an answer tells
+-- the verdict in an answer
 abbrev pub answer_of : {K U : Type 0} → Prepared K U → Answer
 answer_of (prepared.Already number) = Already number
 answer_of (prepared.Change change) = Accepted
@@ -135,18 +134,19 @@ abbrev pub IsAnswer : {K U : Type 0} → Keeping K U → RegisterView K → Comm
 IsAnswer keeping r c (prepared.Already number) = Unit {0}
 IsAnswer keeping r c (prepared.Change change) = IsPrepared keeping r c change
 
--- before moves are known, the answer is the verdict, and wants memory for nothing but the name of a refusal
+-- before moves are known, the answer is the verdict, and takes memory only for the name in a refusal
 abbrev pub IsExactly : {K U : Type 0} → Told Answer → Result (Prepared K U) Refusal → Type 0
 IsExactly (Err e) answer = Refuses e answer
 IsExactly (Ok (Already number)) answer = answer ≡ Ok (prepared.Already number)
 IsExactly (Ok Accepted) answer = Unit {0}
 
--- or else memory is wanting, where a comparison wants it
+-- the same; or memory ran out, if a comparison takes memory
 abbrev pub IsExact : {K U : Type 0} → Bool → Told Answer → Result (Prepared K U) Refusal → Type 0
 IsExact false told answer = IsExactly told answer
 IsExact true told answer = (answer ≡ Err NoMemory) ⊎ IsExactly told answer
 
--- what is known of the packages that a command touches says which they are, once the demand after it is known
+-- the packages that a command touches, as known before its edit, are those that it touches, once the demand after it is
+-- known
 abbrev pub SaysTouched : State → DayValue → Action → Touching → Type 0
 SaysTouched s day action t =
     touched_with t (demanded s) (demand_in (held_after s day action)) ≡ touched_by s day action
@@ -173,24 +173,24 @@ pub record IsDeskEffect {K : Type 0} (r : RegisterView K) (day : DayValue) (comm
   pub next_entry : e.next_entry ≡ number_after r.state (Desk command)
   pub fits : Fits e.edit (held_room r)
 
--- what is asked by an action that is accepted is its effect
+-- the answer to an action that is accepted is its effect
 abbrev pub IsEffectOf : {K : Type 0} → RegisterView K → DayValue → Action → Asked → Type 0
 IsEffectOf r day action (asked.Already number) = ⊥
 IsEffectOf r day action (asked.Effect e) = IsEffect r day action e
 
--- the answer to an action on a day: what is judged of it, and where that accepts it, its effect
+-- the answer to an action on a day: the verdict on it and, if that accepts it, its effect
 abbrev pub AsksExactly : {K : Type 0} → RegisterView K → DayValue → Action → Told Answer → Result Asked Refusal → Type 0
 AsksExactly r day action (Err e) answer = Refuses e answer
 AsksExactly r day action (Ok (Already number)) answer = answer ≡ Ok (asked.Already number)
 AsksExactly r day action (Ok Accepted) answer = MatchResult answer (IsEffectOf r day action) (λ e. e ≡ NoMemory)
 
--- or else memory is wanting, where a comparison wants it
+-- the same; or memory ran out, if a comparison takes memory
 abbrev pub AsksBy : {K : Type 0} → Bool → RegisterView K → DayValue → Action → Told Answer → Result Asked Refusal
     → Type 0
 AsksBy false r day action told answer = AsksExactly r day action told answer
 AsksBy true r day action told answer = (answer ≡ Err NoMemory) ⊎ AsksExactly r day action told answer
 
--- the answer to an action in a state, where the register has room for its effect
+-- the answer to an action in a state, if the register has room for its effect
 abbrev pub Asks : {K : Type 0} → State → RegisterView K → DayValue → Action → Told Answer → Result Asked Refusal
     → Type 0
 Asks s r day action told answer = AsksBy (wants_memory s action) r day action told answer

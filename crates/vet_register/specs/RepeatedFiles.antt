@@ -1,11 +1,12 @@
--- When the verdict on files is that what they hold is held already (ours).
+-- When the verdict on files is that their content is already held (ours).
 --
 -- Files say what is held (SayWhatIsHeld) if all of this holds. Their criteria are those held besides the built-in ones,
 -- and their entries are the own ones apart from exemptions with a last day, each in any order. The peers of the config
 -- file are those held, with these settings. The imports file says of each what is held of it, and says nothing of any
--- other peer (SaysWhatIsHeld, each_is_set). Publisher records, policies and what is said to the tool alone are equal.
--- Two sets of three files say the same (SayTheSame) if either says what is held whenever the other does, and their
--- imports files have the same peers.
+-- other peer (SaysWhatIsHeld, each_is_set). Publisher records, policies and the settings for the tool are equal. Two
+-- sets of three files say the same (SayTheSame) if they have the same criteria and own entries, and the same content
+-- for each peer, each list in any order, and if everything else is equal: the settings of peers, the names of the peers
+-- in the imports file, publisher records, policies and the settings for the tool.
 use Rattle.std.specs.Prelude.{◌≡◌, ◌↔◌, true, List, Ok, map}
 use Rattle.std.specs.List.{All}
 use Rattle.vet_base.specs.Day.{DayValue}
@@ -64,7 +65,7 @@ HeldFilesAreAlready =
 abbrev pub SameContents : PeerContentValue → PeerContentValue → Type 0
 SameContents a b = SameItems a.criteria b.criteria × SameItems a.entries b.entries
 
--- files say the same, each list in whatever order
+-- files say the same, each list in any order
 pub record SayTheSame (f g : FilesValue) : Type 0 where
   pub criteria : SameItems f.criteria g.criteria
   pub entries : SameItems f.entries g.entries

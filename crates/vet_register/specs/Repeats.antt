@@ -1,4 +1,4 @@
--- When an import is told that its content is held already (ours).
+-- When the verdict on an import is that its content is already held (ours).
 use Rattle.std.specs.Prelude.{◌≡◌, ◌↔◌, false, List, Some, None, Ok}
 use Rattle.std.specs.List.{All}
 use Rattle.vet_base.specs.Words.{Name}
@@ -23,11 +23,11 @@ use Rattle.vet_register.specs.Verdict.{verdict}
 abbrev pub import_on : DayValue → Name → PeerContentValue → Command
 import_on day name content = record { day = day; action = ImportPeer name content }
 
--- a command is told that its content is held already, and changes nothing
+-- the verdict on a command is that its content is already held, and it changes nothing
 abbrev pub ChangesNothing : State → Command → Type 0
 ChangesNothing s c = (verdict s c ≡ Ok (Already None)) × (after s c ≡ s)
 
--- an import from a held peer is told so just where the criteria and the entries are those held of it, in whatever order
+-- this is so for an import from a held peer exactly if the criteria and the entries are those held of it, in any order
 abbrev pub HeldContentIsAlready : Type 0
 HeldContentIsAlready =
     (s : State) (day : DayValue) (name : Name) (content : PeerContentValue) (peer : HeldPeer)
@@ -41,7 +41,7 @@ HeldContentIsAlready =
     ↔ (SameItems content.criteria criteria
     × SameItems (as_peers name content.entries) (entries_of peer.content.entries))
 
--- after an import, an import of the same criteria and the same entries, in whatever order, changes nothing
+-- after an import, an import of the same criteria and the same entries, in any order, changes nothing
 abbrev pub RepeatedImportIsAlready : Type 0
 RepeatedImportIsAlready =
     (s : State) (day later : DayValue) (name : Name) (content again : PeerContentValue)

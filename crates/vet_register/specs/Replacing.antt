@@ -1,4 +1,4 @@
--- What is held after three files replace what was held (ours).
+-- Everything that is held after three files replace what was held (ours).
 --
 -- ReplaceFiles puts the content of three files (FilesValue) in place of all that is held except projects, the desk, own
 -- exemptions with a last day and the register's day (facts_of_files, tool_of_files). Own entries are those of the
@@ -22,7 +22,7 @@ use Rattle.vet_files.specs.FilesContent.{FilesValue, content_for}
 use Rattle.vet_files.specs.declared.imports_file.ImportedPeer.{ImportedPeer}
 use Rattle.vet_register.specs.declared.tool_settings.ToolSettings.{ToolSettings}
 
--- what is held of the peer of some settings: of a new one, nothing
+-- the holding of the peer of some settings; nothing for a new one
 abbrev pub held_of_peer : List HeldPeer → PeerSettings → HoldingValue
 held_of_peer peers settings = holding_or_none (peer_of peers settings.name)
 
@@ -64,7 +64,7 @@ facts_of_files next f facts = record {
   today = facts.today;
 }
 
--- what they say to the tool alone
+-- their settings for the tool
 abbrev pub tool_of_files : FilesValue → ToolSettings
 tool_of_files f = record { vet_version = f.vet_version; default_criteria = f.default_criteria }
 
@@ -79,7 +79,7 @@ entries_in_files f = length f.entries + sum_by (count_of_peer f.contents) f.sett
 abbrev pub entries_of_files : Facts → FilesValue → ℕ
 entries_of_files facts f = length (filter is_dated facts.entries) + entries_in_files f
 
--- how the content of a peer stands to what is held of it
+-- how the content of a peer compares with what is held of it
 abbrev pub compared_peer : List HeldPeer → List ImportedPeer → PeerSettings → ComparisonValue
 compared_peer peers contents settings =
     compared settings.name (held_of_peer peers settings) (content_for contents settings.name)

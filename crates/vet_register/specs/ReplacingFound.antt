@@ -1,4 +1,4 @@
--- What is found of files before they are put in place of what is held (ours).
+-- The verdict on files, and how they compare with what is held, before they replace it (ours).
 use Rattle.std.specs.Prelude.{◌≡◌, ◌⊎◌, ◌+◌, ◌<◌, ◌^◌, ℕ, MatchOption, MatchResult, Option, Ok, Err, None, Result, map}
 use Rattle.std.specs.List.{All}
 use Rattle.vet_base.specs.Day.{DayValue}
@@ -17,13 +17,14 @@ use Rattle.vet_register.specs.Replacing.{compared_peer, held_of_peer, new_of_fil
 use Rattle.vet_register.specs.State.{State}
 use Rattle.vet_register.specs.Verdict.{judged}
 
--- this is how the entries of files stand to those held
+-- this is how the entries of files compare with those held
 pub record IsCompared (facts : Facts) (f : FilesValue) (c : FilesComparison) : Type 0 where
   pub own : c.own ≡ compared_own facts.entries f.entries
   pub peers : c.peers.items ≡ map (compared_peer facts.peers f.contents) f.settings
 
--- files can take the place of facts, where this is the next number and their entries stand so to those held: their
--- criteria make a table, each number that is held was given before, and all new ones and all records can be counted
+-- files can replace facts, given the next number and how their entries compare with those held: their criteria make a
+-- table, each number that is held is below the next one, and the numbers after all new ones and the count of all
+-- records are below 2^64
 pub record MayReplace (next : ℕ) (facts : Facts) (f : FilesValue) (c : FilesComparison) : Type 0 where
   pub defined : table_told f.criteria ≡ Ok (table_of f.criteria)
   pub compared : IsCompared facts f c
@@ -32,12 +33,13 @@ pub record MayReplace (next : ℕ) (facts : Facts) (f : FilesValue) (c : FilesCo
   pub numbers : next + new_of_files facts f < 2 ^ 64
   pub records : records_total f.publishers < 2 ^ 64
 
--- files are accepted, and this is how their entries stand to those held
+-- files are accepted, and this is how their entries compare with those held
 pub record AreAccepted (s : State) (day : DayValue) (f : FilesValue) (c : FilesComparison) : Type 0 where
   pub told : judged s day (ReplaceFiles f) ≡ Ok Accepted
   pub compared : IsCompared s.held.facts f c
 
--- the answer is what is judged, with how the entries stand to those held where that is accepted; or memory is wanting
+-- the answer is the verdict (judged), with how the entries compare with those held if the files are accepted; or memory
+-- ran out
 abbrev pub AreJudged : State → DayValue → FilesValue → Result (Option FilesComparison) Refusal → Type 0
 AreJudged s day f answer = MatchResult answer
     (λ found. MatchOption found (judged s day (ReplaceFiles f) ≡ Ok (Already None)) (AreAccepted s day f))

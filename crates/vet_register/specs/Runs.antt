@@ -1,9 +1,8 @@
--- What commands make of a state, one after the other (ours).
+-- The states after commands that are run one after the other (ours).
 --
--- Of a command that is run, the state after it is the next one where it is accepted, else the same. Turns
--- (AreTurns): commands are run one after the other. Each is told the verdict, with its outcome, in the state that
--- those before it left (IsTurn), and leads to the state after it. Or memory runs out for it, and it changes
--- nothing.
+-- The state after a command is the next one if the command is accepted, otherwise the same. Commands are run in turns
+-- (AreTurns), one after the other. Each is answered with the verdict, and with its outcome, in the state that those
+-- before it left (IsTurn), and leads to the state after it. Or memory runs out for it, and it changes nothing.
 use Rattle.std.specs.Prelude.{◌≡◌, ◌⊎◌, List, [], ◌∷◌, Result, Ok, Err}
 use Rattle.vet_base.specs.Gives.{Told, ◌>>=◌}
 use Rattle.vet_base.specs.declared.refusal.Refusal.{Refusal}
@@ -17,16 +16,16 @@ use Rattle.vet_register.specs.Machine.{next, outcome_of}
 use Rattle.vet_register.specs.State.{State}
 use Rattle.vet_register.specs.Verdict.{verdict}
 
--- what comes of a command by its answer
+-- the outcome of a command by the verdict on it
 abbrev pub outcome_by : State → Command → Answer → Outcome
 outcome_by s c (Already number) = outcome.Already number
 outcome_by s c Accepted = outcome_of s c
 
--- what a command is told, with what comes of it
+-- the verdict on a command, with its outcome
 abbrev pub told : State → Command → Told Outcome
 told s c = verdict s c >>= λ answer. Ok (outcome_by s c answer)
 
--- the state that an answer leaves: an accepted command leads to the next one, each other changes nothing
+-- the state that an answer leaves: an accepted command leads to the next one, any other changes nothing
 abbrev pub left : State → Command → Told Answer → State
 left s c (Ok Accepted) = next s c
 left s c (Ok (Already number)) = s
@@ -36,8 +35,8 @@ left s c (Err e) = s
 abbrev pub after : State → Command → State
 after s c = left s c (verdict s c)
 
--- a command was answered in one state, and left the other: it was told its verdict, or memory ran out and it changed
--- nothing
+-- a command was answered in one state, and left the other: it was answered with its verdict, or memory ran out and it
+-- changed nothing
 abbrev pub IsTurn : State → Command → Result Outcome Refusal → State → Type 0
 IsTurn s c answer end = ((answer ≡ told s c) × (end ≡ after s c)) ⊎ ((answer ≡ Err NoMemory) × (end ≡ s))
 

@@ -1,4 +1,4 @@
--- When recorded moves stand in their order and lead from some counts to others (ours), as it is computed.
+-- When recorded moves are in their order and lead from some counts to others (ours), as it is computed.
 use Rattle.std.specs.Prelude.{◌≡◌, ◌+◌, ◌==◌, Bool, List}
 use Rattle.std.specs.Ordering.{is_lt, nat_cmp, on, then_cmp}
 use Rattle.vet_demand.specs.Pair.{pair_cmp}

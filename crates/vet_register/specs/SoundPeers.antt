@@ -1,4 +1,4 @@
--- What a peer's file can define, and which entries it can give (ours).
+-- The criteria that a peer's file can define, and the entries that it can give (ours).
 use Rattle.std.specs.Prelude.{◌≡◌, ◌≤◌, false, true, List, length}
 use Rattle.std.specs.List.{All}
 use Rattle.vet_base.specs.declared.criterion.Criterion.{Criterion}
@@ -10,14 +10,14 @@ use Rattle.vet_base.specs.Items.{NamedOnce}
 use Rattle.vet_entries.specs.declared.facts.HeldEntry.{HeldEntry}
 use Rattle.vet_entries.specs.PeerContent.{is_peer_kind}
 
--- a table is what these criteria define, of which no two have a name, none is built in, and there are not too many
+-- these criteria define a table: no two have one name, none is built in, and there are at most MOST_PEER_CRITERIA
 pub record AreDefinedBy (table : Criteria) (criteria : List Criterion) : Type 0 where
   pub further : All (λ c. is_built_in c.name ≡ false) criteria
   pub named_once : NamedOnce (λ (c : Criterion). c.name) criteria
   pub few : length criteria ≤ MOST_PEER_CRITERIA
   pub defines : table ≡ defined criteria
 
--- a table is what some criteria of a peer's file define
+-- some criteria of a peer's file define a table
 abbrev pub AreOfPeer : Criteria → Type 0
 AreOfPeer table = (criteria : List Criterion) × AreDefinedBy table criteria
 

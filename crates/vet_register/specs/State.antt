@@ -1,10 +1,9 @@
 -- The state of the machine, and where it begins (ours).
 --
--- A state (State) is what is held (HeldValue), the desk (DeskState), the step and the next entry number. Beside
--- these it is the moves limit, the first counts and the recorded moves. The desk has the next number of a review.
--- The demand is no part of the state, since what is held gives it (demanded). The first state (start) holds the
--- built-in criteria alone (nothing_held), and its desk is empty (empty_desk). It has step 0, next number 1, five
--- zeros and no recorded moves.
+-- A state (State) is what is held (HeldValue), the desk (DeskState), the step and the next entry number. It is also the
+-- moves limit, the first counts and the recorded moves. The desk has the next number of a review. The demand is no part
+-- of the state, since what is held gives it (demanded). The first state (start) holds only the built-in criteria
+-- (nothing_held), and its desk is empty (empty_desk). It has step 0, next number 1, five zeros and no recorded moves.
 use Rattle.std.specs.Prelude.{ℕ, List, [], map}
 use Rattle.vet_demand.specs.declared.pair.Pair.{Pair}
 use Rattle.vet_desk.specs.Desk.{DeskState, empty_desk}
@@ -14,8 +13,8 @@ use Rattle.vet_graph.specs.declared.standing.Stand.{Stand}
 use Rattle.vet_register.specs.declared.moves.RecordedMove.{RecordedMove}
 use Rattle.vet_register.specs.Held.{HeldValue, demand_in, nothing_held, standing_in}
 
--- what is held, the desk, how many commands were accepted, the next entry's number, the most moves, the first counts,
--- the moves
+-- the things held, the desk, the number of accepted commands, the next entry's number, the moves limit, the first
+-- counts, the moves
 pub record State : Type 0 where
   pub held : HeldValue
   pub desk : DeskState
@@ -37,7 +36,7 @@ standing s = standing_in s.held
 abbrev pub no_counts : Counts
 no_counts = record { conflicting = 0; full = 0; partial = 0; exempted = 0; unvetted = 0 }
 
--- nothing is held, and so nothing demanded; nobody is at the desk
+-- nothing is held, and so nothing is demanded; the desk is empty
 abbrev pub start : ℕ → State
 start limit = record {
   held = nothing_held;

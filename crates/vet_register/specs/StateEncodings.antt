@@ -11,7 +11,7 @@ use Rattle.vet_register.specs.declared.moves.RecordedMove.{RecordedMove}
 use Rattle.vet_register.specs.declared.tool_settings.ToolSettings.{ToolSettings}
 use Rattle.vet_register.specs.State.{State}
 
--- a state is stored as the tuple of its parts, where facts and a desk have no room
+-- a state is stored as the tuple of its parts, with no room for facts and the desk
 abbrev pub state_code : Coded FactsRoom → Coded KeyedPolicy → Coded NamedProject → Coded ToolSettings → Coded DeskView
     → Coded Counts → Coded RecordedMove → Coded State
 state_code facts_code policy_code project_code settings_code desk_code counts_code move_code =

@@ -1,5 +1,5 @@
--- Which of two faults of a command to the desk is told (ours): limits of steps and numbers that no list of commands
--- reaches are told in their place too.
+-- Which of two faults of a command to the desk is returned (ours). Limits of steps and numbers that no list of commands
+-- reaches are returned in their place too.
 use Rattle.std.specs.Prelude.{◌≡◌, ℕ, Ok, Err}
 use Rattle.vet_base.specs.Day.{DayValue}
 use Rattle.vet_base.specs.Gives.{◌>>=◌}
@@ -15,7 +15,7 @@ use Rattle.vet_register.specs.declared.verdict.Answer.TheVariants.{Accepted}
 use Rattle.vet_register.specs.State.{State}
 use Rattle.vet_register.specs.Verdict.{judged, step_limit}
 
--- of a review that is opened: too many reviews before the step
+-- for a review that is opened: too many reviews before the step
 abbrev pub ReviewsBeforeStep : Type 0
 ReviewsBeforeStep =
     (s : State) (day : DayValue) (name : Name) (version : VersionValue) (criteria : NameSet) (e : Refusal)
@@ -34,11 +34,11 @@ NumberBeforeCriteria =
     → review_limit s.desk ≡ Ok tt → step_limit s ≡ Ok tt → review_number_limit s.desk ≡ Err e
     → judged s day (Desk (OpenReview name version criteria)) ≡ Err e
 
--- of a review that is finished: member and review before the step
+-- for a review that is finished: member and review before the step
 abbrev pub FinishedIsHeldBeforeStep : Type 0
 FinishedIsHeldBeforeStep = (s : State) (day : DayValue) (n : ℕ) (member : Name) (reviewed : Reviewed) (e : Refusal)
     → both_held s.desk n member ≡ Err e → judged s day (Desk (FinishReview n member reviewed)) ≡ Err e
 
--- a period that is closed is asked for its step alone
+-- the verdict on closing a period is only that on its step
 abbrev pub PeriodAsksForStep : Type 0
 PeriodAsksForStep = (s : State) (day : DayValue) → judged s day ClosePeriod ≡ (step_limit s >>= λ _. Ok Accepted)

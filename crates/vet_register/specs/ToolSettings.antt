@@ -1,4 +1,4 @@
--- What a config file says to the tool alone (The Cargo Vet Book, config file).
+-- The settings of a config file that are for the tool only (The Cargo Vet Book, config file).
 use Rattle.std.specs.Prelude.{◌&&◌, Bool, None}
 use Rattle.std.specs.Option.{option_eq}
 use Rattle.vet_base.specs.Criterion.{same_text}

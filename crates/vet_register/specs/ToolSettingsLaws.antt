@@ -1,4 +1,4 @@
--- Only what a config file says to the tool alone is equal to it (ours).
+-- Settings for the tool are equal only to themselves (ours).
 use Rattle.std.specs.Prelude.{◌≡◌}
 use Rattle.std.specs.Bool.{Decides}
 use Rattle.std.specs.Cmp.Lexicographic.{bytes_decides}
@@ -9,7 +9,7 @@ use Rattle.vet_base.specs.OptionLaws.{options_decide}
 use Rattle.vet_register.specs.declared.tool_settings.ToolSettings.{ToolSettings}
 use Rattle.vet_register.specs.ToolSettings.{tool_eq}
 
--- only settings themselves are equal to them
+-- settings are equal only to themselves
 pub tool_eq-Decides : (a b : ToolSettings) → Decides (tool_eq a b) (a ≡ b)
 tool_eq-Decides a b =
     Decides-like (tool_eq a b)

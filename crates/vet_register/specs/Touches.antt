@@ -63,14 +63,14 @@ packages_lapsing facts day = map held_package (filter (lapses_between facts.toda
 
 -- ---- the pairs that only one of two demands has
 
--- those from what begins with p to what begins with q, by how the two compare: the first demand alone has p, both have
--- it, or the second alone has q
+-- those from what begins with p to what begins with q, by how the two compare: only the first demand has p, both have
+-- it, or only the second has q
 abbrev pub pairs_by : Ordering → Pair → Pair → List Pair → List Pair → List Pair → List Pair
 pairs_by Less p q less equal greater = p ∷ less
 pairs_by Equal p q less equal greater = equal
 pairs_by Greater p q less equal greater = q ∷ greater
 
--- those from p and what follows it, where `more` gives those from what follows it
+-- those from p and what follows it, if `more` gives those from what follows it
 abbrev pub pairs_past : Pair → (List Pair → List Pair) → List Pair → List Pair
 pairs_past p more [] = p ∷ more []
 pairs_past p more (q ∷ after) =
@@ -85,7 +85,7 @@ pairs_between (p ∷ before) after = pairs_past p (pairs_between before) after
 abbrev pub packages_between : List Pair → List Pair → List Name
 packages_between before after = map pair_package (pairs_between before after)
 
--- what is touched, by what is known before the edit, and the demand before and after it
+-- the packages that are touched, given what is known of them before the edit, and the demand before and after it
 abbrev pub touched_with : Touching → List Pair → List Pair → Touched
 touched_with (touching.Known touched) before after = touched
 touched_with touching.ByDemand before after = only_at (packages_between before after)

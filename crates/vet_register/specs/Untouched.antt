@@ -1,4 +1,4 @@
--- What a command does not touch stays (ours).
+-- Everything that a command does not touch stays (ours).
 --
 -- Outside of what a command touches, the steps, the condemned versions and the demanded pairs are the same before and
 -- after it, and unless it touches all packages, so are the criteria (UntouchedStays, SameOutside). So each pair of a

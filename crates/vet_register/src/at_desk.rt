@@ -1,8 +1,8 @@
-//! What a command asks of the review desk: its verdict, in which parts of the desk's and of the register's own stand
-//! in turn, and its effect.
+//! Commands to the review desk: the verdict, in which parts of the desk's and of the register's own take turns, and the
+//! effect.
 //!
-//! A review that is finished adds its entry, unless an equal own one is held. Whether one is shows once the entry is
-//! made: so the limits of a finished review come last of all.
+//! A review that is finished adds its entry, unless an equal own one is held. This is known only once the entry is
+//! made, so the limits of a finished review come last of all.
 ghost use Rattle.std.specs.Prelude.{◌≡◌, ◌+◌, ◌++◌, ◌∷◌, ◌≤◌, [], IfErr, IfOk, None, Ok, Some, false};
 ghost use Rattle.vet_base.specs.Day.{DayValue};
 ghost use Rattle.vet_base.specs.Gives.{Answers, Gives};
@@ -36,7 +36,7 @@ use vet_entries::entry::Entry;
 use vet_graph::keeper::Keeper;
 
 impl<K: Keeper> Register<K> {
-    /// What a command asks of the desk, and room for it.
+    /// The effect of a command to the desk, and room for it.
     pub(crate) fn ask_desk(
         &mut self,
         alloc: Global,
@@ -58,7 +58,7 @@ impl<K: Keeper> Register<K> {
         Ok(Asked::Effect(effect))
     }
 
-    // All that a command is asked but for the limits that come after rules.
+    // All checks of a command, except the limits that come after the rules.
     fn check_command(&self, command: &DeskCommand) -> Result<(), Refusal>
         ensures { Answers (asked_before self.now.state command.now) result }
     {
@@ -70,7 +70,7 @@ impl<K: Keeper> Register<K> {
         self.desk.check_rules(command, &self.demand)
     }
 
-    // A step is asked for before the rules unless the command finishes a review.
+    // Checks the limit of steps, unless the command finishes a review: then that check comes after the rules.
     fn check_step_before_rules(&self, command: &DeskCommand) -> Result<(), Refusal>
         ensures { result ≡ step_before_rules self.now.state command.now }
     {
@@ -80,7 +80,7 @@ impl<K: Keeper> Register<K> {
         self.check_step()
     }
 
-    // What changes at the desk, and room for it.
+    // The change at the desk, and room for it.
     fn desk_change(
         &mut self,
         alloc: Global,
@@ -105,8 +105,8 @@ impl<K: Keeper> Register<K> {
         }
     }
 
-    // The effect of a command that changes this at the desk: the entry of a review that it finishes is added, unless an
-    // equal one is held.
+    // The effect of a command that makes this change at the desk: the entry of a review that it finishes is added,
+    // unless an equal one is held.
     fn desk_effect(
         &mut self,
         alloc: Global,
@@ -153,7 +153,7 @@ impl<K: Keeper> Register<K> {
         }
     }
 
-    // The effect of finishing a review where an equal entry is held under a number.
+    // The effect of finishing a review if an equal entry is held under a number.
     fn finished_as(&self, alloc: Global, number: u64, change: DeskChange) -> Result<Effect, Refusal>
         ensures told { Gives (λ e. tt) (step_limit self.now.state) result }
         ensures effect { IfOk result (λ e. e ≡ record {
@@ -177,7 +177,7 @@ impl<K: Keeper> Register<K> {
         })
     }
 
-    // A copy of an entry that is to be added, for which there is a number.
+    // A copy of an entry that is to be added, if it is within the limits.
     fn new_entry(&self, entry: &Entry) -> Result<Entry, Refusal>
         ensures told { Gives (λ e. tt) (entry_limits self.now.state (Some entry.now)) result }
         ensures own { IfOk result (λ e. e ≡ own entry.now) }

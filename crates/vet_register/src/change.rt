@@ -13,10 +13,10 @@ use vet_desk::desk::Desk;
 use vet_graph::keeper::Keeper;
 use vet_graph::touched::Touched;
 
-/// What an accepted command changes at the desk.
+/// The change that an accepted command makes at the desk.
 pub struct DeskEdit {
     pub change: DeskChange,
-    /// The number of the entry of a review that is finished.
+    /// The number of the entry, if a review is finished.
     pub entry: Option<u64>,
 }
 
@@ -40,13 +40,13 @@ impl DeskEdit {
     }
 }
 
-/// What an accepted command changes: the register that prepared it installs it.
+/// The change that an accepted command makes. The register that prepared it installs it.
 #[derive(Drop)]
 pub struct Change<K: Keeper> {
     pub(crate) edit: HeldEdit,
-    // an edit of the desk, unless that stays
+    // the edit of the desk, if it changes
     pub(crate) desk: Option<DeskEdit>,
-    // another demand, unless it stays
+    // the demand after the change, unless it is kept
     pub(crate) demand: Option<Demand>,
     pub(crate) update: K::Update,
     pub(crate) recording: Recording,
@@ -56,15 +56,15 @@ pub struct Change<K: Keeper> {
 }
 
 impl<K: Keeper> Change<K> {
-    /// What comes of the command: its step, the number of the entry that it makes or of the review that it opens, or of
-    /// the entry of the review that it finishes, and how many pairs it moves. Takes no memory.
+    /// The outcome of the command: its step; the number of the entry that it adds, of the review that it opens, or of
+    /// the entry of the review that it finishes; and how many pairs it moves. Takes no memory.
     pub fn outcome(&self) -> Outcome
         ensures { result ≡ self.now.outcome }
     {
         self.outcome
     }
 
-    /// The packages that the command touches, as the keeper got them. Takes no memory.
+    /// The packages that the command touches, as they were passed to the keeper. Takes no memory.
     pub fn touched(&self) -> &Touched
         ensures { result.now ≡ K.keeping.touched_of self.now.update }
     {
@@ -80,7 +80,7 @@ impl<K: Keeper> Change<K> {
         &self.edit
     }
 
-    /// The edit of the desk, unless that stays. Takes no memory.
+    /// The edit of the desk, if it changes. Takes no memory.
     pub fn desk(&self) -> Option<&DeskEdit>
         ensures { option_copied result ≡ self.now.desk }
     {
@@ -94,7 +94,7 @@ impl<K: Keeper> Change<K> {
         &self.recording
     }
 
-    /// How many commands are accepted with this one. Takes no memory.
+    /// The number of accepted commands, including this one. Takes no memory.
     pub fn step(&self) -> u64
         ensures { result ≡ self.now.step }
     {
@@ -109,11 +109,11 @@ impl<K: Keeper> Change<K> {
     }
 }
 
-/// What a register answers to a command that nothing refuses.
+/// A register's answer to a command that is not refused.
 #[derive(Drop)]
 pub enum Prepared<K: Keeper> {
-    /// What it sets or adds is held already; an entry, under this number.
+    /// The thing that it sets or adds is already held; if it is an entry, under this number.
     Already(Option<u64>),
-    /// What it would change.
+    /// The change that it would make.
     Change(Change<K>),
 }

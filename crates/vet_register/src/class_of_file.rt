@@ -30,13 +30,12 @@ use vet_files::audits_file::{AuditsContent, read_audits};
 use vet_graph::class::Class;
 use vet_graph::pair_class::class_of_pair;
 
-/// The class that a pair has in a register that holds this audits file and nothing else, where nothing but this
-/// pair is demanded.
+/// The class of a pair in a register that holds only this audits file, if only this pair is demanded.
 ///
-/// Refused, the first that holds: `BadName` and `BadVersion` of the words; `TooLarge` of `input` for a file of
-/// more than 8,388,608 bytes; `TomlRefused`, `FieldRefused` and `TooLarge` of `text` of the file;
-/// `TooManyCriteria` if there are more than `MOST_CRITERIA`, including the built-in ones; `UnknownCriterion` of the
-/// least name in the file or the words that is not a criterion. `NoMemory` can come at any point.
+/// Refused, the first that applies: `BadName` and `BadVersion` of the words; `TooLarge` of `input` for a file of more
+/// than 8,388,608 bytes; `TomlRefused`, `FieldRefused` and `TooLarge` of `text` of the file; `TooManyCriteria` if there
+/// are more than `MOST_CRITERIA`, including the built-in ones; `UnknownCriterion` of the least name in the file or the
+/// words that is not a criterion. `NoMemory` can come at any point.
 pub fn class_of_file(
     alloc: Global,
     file: &[u8],
@@ -74,7 +73,7 @@ fn read_content(alloc: Global, file: &[u8]) -> Result<AuditsContent, Refusal>
     Ok(found.content)
 }
 
-// The class by a file's content, where there are not too many criteria and each that is named is known.
+// The class by a file's content, if there are not too many criteria and each that is named is known.
 fn class_in(alloc: Global, content: AuditsContent, pair: &Pair) -> Result<Class, Refusal>
     requires { All (λ c. is_built_in c.name ≡ false) content.criteria }
     ensures is { IfOk result (IsClassOfPair (facts_of content) pair.now) }
@@ -86,7 +85,7 @@ fn class_in(alloc: Global, content: AuditsContent, pair: &Pair) -> Result<Class,
     class_of_pair(alloc, &facts, pair)
 }
 
-// Refuses a file with too many criteria, and a name that isn't known in it or in a word.
+// Refuses a file with too many criteria, and an unknown name in it or in a word.
 fn check_criteria(alloc: Global, word: &Name, content: &AuditsContent) -> Result<(), Refusal>
     ensures { Gives (λ u. u) (checked word.now content.now) result }
 {
@@ -100,7 +99,7 @@ fn check_criteria(alloc: Global, word: &Name, content: &AuditsContent) -> Result
     Ok(())
 }
 
-/// The table of a file's criteria, which refuses none of them.
+/// The table of a file's criteria. Asks that none of them is refused. Refused: `NoMemory`.
 pub(crate) fn defined_table(
     alloc: Global,
     criteria: Vec<Criterion>,
@@ -112,7 +111,7 @@ pub(crate) fn defined_table(
     CriteriaTable::of(alloc, criteria)
 }
 
-// The least name that isn't known, of a word and of a file's content, where these are the known names.
+// The least unknown name among a word and those of a file's content, given the known names.
 fn unknown_name<'a>(known: &Names, word: &'a Name, content: &'a AuditsContent) -> Option<&'a Name>
     requires { (n : List ℕ) → set.contains known.now n ≡ map.contains_key (defined content.now.criteria) n }
     ensures { option_copied result
@@ -121,7 +120,7 @@ fn unknown_name<'a>(known: &Names, word: &'a Name, content: &'a AuditsContent) -
     unknown_outside(known, word, content)
 }
 
-// The least name that isn't in a set, of a word and of a file's content.
+// The least name that isn't in a set, among a word and those of a file's content.
 fn unknown_outside<'a>(
     known: &Names,
     word: &'a Name,
@@ -134,7 +133,7 @@ fn unknown_outside<'a>(
     unknown_of_entries(known, least, content.entries.as_slice())
 }
 
-// The word, where it isn't known.
+// The word, if it isn't known.
 fn unknown_word<'a>(known: &Names, word: &'a Name) -> Option<&'a Name>
     ensures { option_copied result ≡ unknown_in (set.contains known.now) word.now }
 {
@@ -145,7 +144,7 @@ fn unknown_word<'a>(known: &Names, word: &'a Name) -> Option<&'a Name>
     }
 }
 
-/// The least name that isn't known, of one handed in and of the criteria of some entries.
+/// The lesser of a given name, if there is one, and the least unknown name among the criteria of some entries.
 pub(crate) fn unknown_of_entries<'a>(
     known: &Names,
     first: Option<&'a Name>,

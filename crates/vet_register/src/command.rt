@@ -27,9 +27,9 @@ impl Drop for Command {
     }
 }
 
-/// What a command asks for.
+/// The action that a command asks for.
 pub enum Action {
-    /// Adds a criterion, or puts it in place of the one of its name.
+    /// Adds a criterion, or replaces the one of its name.
     SetCriterion(Criterion),
     /// Removes the criterion of this name.
     RemoveCriterion(Name),
@@ -37,20 +37,20 @@ pub enum Action {
     AddEntry(Entry),
     /// Drops the own entry of this number.
     DropEntry(u64),
-    /// Adds a peer, of which nothing is imported yet, or puts these settings in place of those of the one of its name.
+    /// Adds a peer with nothing imported, or replaces the settings of the one of this name.
     SetPeer(PeerSettings),
     /// Drops the peer of this name, with all that was imported from it.
     DropPeer(Name),
-    /// Puts this content in place of what was imported from the peer of this name. An entry that was imported before
-    /// keeps its number; whatever source the content's entries name, they are the peer's.
+    /// Replaces the content that was imported from the peer of this name. An entry that was imported before keeps its
+    /// number. The content's entries become the peer's, whatever source they name.
     ImportPeer(Name, PeerContent),
-    /// Puts these publisher records in place of those of the package; where there are none, it has none.
+    /// Replaces the publisher records of a package. If these are none, it has none.
     SetPublishers(PackageName, Publishers),
-    /// Adds a policy, or puts it in place of the one of its key.
+    /// Adds a policy, or replaces the one of its key.
     SetPolicy(KeyedPolicy),
     /// Drops the policy of this key.
     DropPolicy(PolicyKey),
-    /// Adds a project, or puts it in place of the one of its name.
+    /// Adds a project, or replaces the one of its name.
     LoadProject(NamedProject),
     /// Drops the project of this name.
     DropProject(PackageName),
@@ -58,9 +58,9 @@ pub enum Action {
     /// and the register's day. An entry that was held before, of the same source, keeps its number. A peer of the
     /// config file that the imports file lacks is held with nothing imported.
     ReplaceFiles(FilesContent),
-    /// What is asked of the desk. A review that is finished adds an own entry, unless an equal one is held.
+    /// A command to the review desk. A review that is finished adds an own entry, unless an equal one is held.
     Desk(DeskCommand),
-    /// Begins another period: the counts at first are those that are present, and no move is recorded any more.
+    /// Begins another period: the present counts become the first counts, and the recorded moves are removed.
     ClosePeriod,
     /// Makes the day of the command the register's day. Exemptions whose last day is before it have lapsed.
     SetDay,
@@ -90,7 +90,7 @@ impl Drop for Action {
 }
 
 impl Action {
-    /// Whether it ends the period.
+    /// Whether this action ends the period.
     pub(crate) fn ends_period(&self) -> bool
         ensures { result ≡ ends_period self.now }
     {
@@ -101,19 +101,19 @@ impl Action {
     }
 }
 
-/// What came of a command that nothing refused.
+/// The outcome of a command that was not refused.
 #[derive(Clone, Copy, PartialEq, Eq)]
 pub enum Outcome {
-    /// It is done.
+    /// The command is done.
     Done {
-        /// How many commands were accepted, this one among them.
+        /// The number of accepted commands, including this one.
         step: u64,
-        /// The number of the entry that it made, of the review that it opened, or of the entry of the review that it
+        /// The number of the entry that it added, of the review that it opened, or of the entry of the review that it
         /// finished.
         number: Option<u64>,
-        /// How many pairs it moved.
+        /// The number of pairs that it moved.
         moves: u64,
     },
-    /// What it sets or adds is held already; an entry, under this number.
+    /// The thing that it sets or adds is already held; if it is an entry, under this number.
     Already(Option<u64>),
 }

@@ -1,5 +1,5 @@
-//! What an accepted command does to what is held: one function a command, which asks for the verdict and then makes
-//! the edit, and room for it. What is held stays.
+//! The edit that an accepted command makes of what is held: one function for each command, which finds the verdict, and
+//! then the edit and room for it. Everything that is held stays as it is.
 ghost use Rattle.std.specs.Prelude.{◌≡◌, ◌<◌, ◌+◌, ◌^◌, ◌++◌, Ok, IfOk, IfErr, map as mapped};
 ghost use Rattle.std.specs.FinMap as map;
 ghost use Rattle.vet_base.specs.Criteria.{IsTable};
@@ -41,8 +41,8 @@ use vet_files::files_content::FilesContent;
 use vet_graph::keeper::Keeper;
 use vet_graph::touched::Touched;
 
-/// Edits of what is held and of the desk, unless that stays; the packages that are touched; the number in a command's
-/// outcome, and the next number of an entry after it.
+/// The edits that a command makes of what is held and of the desk, if that changes; the packages that are touched; the
+/// number in the command's outcome, and the next number of an entry after it.
 #[derive(Drop)]
 pub struct Effect {
     pub(crate) edit: HeldEdit,
@@ -52,17 +52,17 @@ pub struct Effect {
     pub(crate) next_entry: u64,
 }
 
-/// What an action asks of a register.
+/// The effect that an action has on a register, if any.
 #[derive(Drop)]
 pub enum Asked {
-    /// Nothing: what it sets or adds is held already; an entry, under this number.
+    /// No effect: the thing that it sets or adds is already held; if it is an entry, under this number.
     Already(Option<u64>),
     /// This effect.
     Effect(Effect),
 }
 
 impl<K: Keeper> Register<K> {
-    /// What a command asks of the register, and room for it.
+    /// The effect that a command has on the register, and room for it.
     pub(crate) fn asked_by(&mut self, alloc: Global, command: &Command) -> Result<Asked, Refusal>
         ensures asked { Asks self.old.state self.new command.now.day command.now.action
             (judged self.old.state command.now.day command.now.action) result }
@@ -238,7 +238,7 @@ impl<K: Keeper> Register<K> {
         }))
     }
 
-    // The packages of what is held of a peer, and of other entries, are touched.
+    // The packages of a peer's held entries, and of other entries, are touched.
     fn peer_touched(
         &self,
         alloc: Global,
@@ -255,7 +255,7 @@ impl<K: Keeper> Register<K> {
         }
     }
 
-    // What is held of a peer after an import.
+    // The holding of a peer after an import.
     fn holding_after(
         &self,
         alloc: Global,
@@ -422,7 +422,7 @@ impl<K: Keeper> Register<K> {
     }
 }
 
-// A copy of a table with one criterion more, or with another in place of the one of its name.
+// A copy of a table with a criterion added, or in place of the one of its name.
 fn with_criterion(table: &CriteriaTable, criterion: &Criterion) -> Result<CriteriaTable, Refusal>
     requires { set_verdict table.now criterion.now ≡ Ok tt }
     ensures ok { IfOk result (λ t. t ≡ map.insert table.now criterion.now.name criterion.now) }

@@ -1,4 +1,4 @@
-//! How the entries of three files stand to those that are held.
+//! How the entries of three files compare with those that are held.
 ghost use Rattle.std.specs.List.{All, sum_by};
 ghost use Rattle.std.specs.Prelude.{◌≡◌, ◌<◌, ◌+◌, ◌^◌, IfErr, IfOk, map};
 ghost use Rattle.vet_entries.specs.Facts.{Facts};
@@ -20,8 +20,8 @@ use vet_entries::import::{Comparison, compare, compare_own};
 use vet_entries::peer_content::PeerContent;
 use vet_files::files_content::FilesContent;
 
-/// How the own entries of three files stand to those held, and of each peer of the config file, how its content stands
-/// to what is held of it.
+/// How the own entries of three files compare with those held, and how the content of each peer of the config file
+/// compares with what is held of it.
 pub struct FilesComparison {
     pub(crate) own: Comparison,
     pub(crate) peers: Vec<Comparison>,
@@ -34,7 +34,7 @@ impl Drop for FilesComparison {
 }
 
 impl FilesComparison {
-    /// How many entries are new. Asks that they can be counted.
+    /// The number of entries that are new. Asks that it is below 2^64.
     pub(crate) fn new_count(&self) -> usize
         requires { self.now.own.new_count
             + sum_by (λ (c : ComparisonValue). c.new_count) self.now.peers.items < 2 ^ 64 }
@@ -49,7 +49,7 @@ impl FilesComparison {
     }
 }
 
-/// How the entries of three files stand to those held. Costs what each comparison costs; copies no entry. Refused:
+/// How the entries of three files compare with those held. Costs as much as each comparison; copies no entry. Refused:
 /// `NoMemory`.
 pub(crate) fn compare_files(
     alloc: Global,
@@ -67,7 +67,7 @@ pub(crate) fn compare_files(
     Ok(FilesComparison { own, peers })
 }
 
-// How the content of each peer of the config file stands to what is held of it.
+// How the content of each peer of the config file compares with what is held of it.
 fn compare_peers(
     alloc: Global,
     facts: &EntryFacts,
@@ -91,7 +91,7 @@ fn compare_peers(
     Ok(found)
 }
 
-/// What is held of the peer of a name, or this nothing.
+/// The holding of the peer of a name, or `nothing` if it isn't held.
 pub(crate) fn held_of<'a>(facts: &'a EntryFacts, name: &Name, nothing: &'a Holding) -> &'a Holding
     requires { nothing.now ≡ no_holding }
     ensures { result.now ≡ holding_or_none (peer_of facts.now.content.peers name.now) }
@@ -102,7 +102,7 @@ pub(crate) fn held_of<'a>(facts: &'a EntryFacts, name: &Name, nothing: &'a Holdi
     }
 }
 
-/// What the imports file says of the peer of a name, or this silence.
+/// The content of the peer of a name in the imports file, or `silence` if it has none.
 pub(crate) fn content_of<'a>(
     files: &'a FilesContent,
     name: &Name,
@@ -117,7 +117,7 @@ pub(crate) fn content_of<'a>(
     }
 }
 
-/// The content of a peer of which nothing is said. Takes no memory.
+/// An empty content of a peer. Takes no memory.
 pub(crate) fn no_content(alloc: Global) -> PeerContent
     ensures { result ≡ no_content }
 {

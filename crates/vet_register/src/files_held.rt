@@ -1,4 +1,5 @@
-//! What is held after three files replace what was held. The register's day and exemptions with a last day are kept.
+//! The facts, policies and settings after three files replace those held. The register's day and exemptions with a last
+//! day are kept.
 //!
 //! **An entry that was held before, of the same source, keeps its number, and the new ones get the next numbers in the
 //! order of reading: one's own, and then those of the peers in the order of their names.**
@@ -31,8 +32,8 @@ use vet_entries::peer_settings::PeerSettings;
 use vet_entries::replaced::entries_keep_order;
 use vet_files::files_content::FilesContent;
 
-/// All that is held afterwards, given the next number. Copies all that the files hold, and the held entries that
-/// remain. Refused: `NoMemory`.
+/// Everything that is held afterwards, given the next number. Copies everything that the files hold, and the held
+/// entries that remain. Refused: `NoMemory`.
 pub(crate) fn files_held(
     alloc: Global,
     next: u64,
@@ -145,7 +146,7 @@ fn policies_of(alloc: Global, files: &FilesContent) -> Result<Keyed<KeyedPolicy>
     Keyed::of(alloc, policies)
 }
 
-// A copy of what the config file says to the tool alone.
+// A copy of the config file's settings for the tool.
 fn settings_of(files: &FilesContent) -> Result<ToolSettings, AllocError>
     ensures { IfOk result (λ s. s ≡ tool_of_files files.now) }
 {

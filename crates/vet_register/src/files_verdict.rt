@@ -57,7 +57,8 @@ struct DefinedNames {
 }
 
 impl<K: Keeper> Register<K> {
-    /// The verdict on files that replace what is held: nothing changes, or how their entries compare with those held.
+    /// The verdict on files that replace what is held: `None` if nothing changes, otherwise how their entries compare
+    /// with those held.
     pub(crate) fn judge_files(
         &self,
         alloc: Global,
@@ -106,7 +107,7 @@ impl<K: Keeper> Register<K> {
         Ok(())
     }
 
-    // Whether files hold too much, together with what is kept, if this many of their entries are new.
+    // Whether files, together with what is kept, are within the limits, given which of their entries are new.
     fn check_files_limits(
         &self,
         files: &FilesContent,
@@ -160,7 +161,7 @@ fn has_files(held: &Held, files: &FilesContent, comparison: &FilesComparison) ->
     has_lists(held, files)
 }
 
-// Whether some criteria are those held beside the built-in ones.
+// Whether some criteria are those held besides the built-in ones.
 fn has_criteria(table: &CriteriaTable, criteria: &[Criterion]) -> bool
     ensures { result ≡ has_criteria table.now criteria.now }
 {
@@ -170,7 +171,7 @@ fn has_criteria(table: &CriteriaTable, criteria: &[Criterion]) -> bool
     are_held(table, criteria)
 }
 
-// Whether each of some criteria is held as it is.
+// Whether each of some criteria is held.
 fn are_held(table: &CriteriaTable, criteria: &[Criterion]) -> bool
     ensures { result ≡ list_all (is_held table.now) criteria.now }
 {
@@ -184,7 +185,7 @@ fn further_count(names: &[Name]) -> usize
     names.iter().filter(|name| !is_built_in(name)).count()
 }
 
-// Whether the peers of files are those held, by how their contents stand to what is held of them.
+// Whether the peers of files are those held, given how their contents compare with what is held of them.
 fn has_peers(facts: &EntryFacts, files: &FilesContent, comparisons: &[Comparison]) -> bool
     requires { comparisons.now ≡ mapped (compared_peer facts.now.content.peers files.now.contents) files.now.settings }
     ensures { result ≡ has_peers facts.now.content.peers files.now }
@@ -215,7 +216,7 @@ fn are_same(comparisons: &[Comparison]) -> bool
     comparisons.iter().all(|comparison| comparison.is_same())
 }
 
-// Whether the lists of files are held, and what they say to the tool alone.
+// Whether the lists of files are held, and their settings for the tool.
 fn has_lists(held: &Held, files: &FilesContent) -> bool
     ensures { result ≡ has_lists (content_of held.now) files.now }
 {
@@ -228,7 +229,7 @@ fn has_lists(held: &Held, files: &FilesContent) -> bool
     says_as(&held.settings, files)
 }
 
-// Whether files say the same to the tool alone.
+// Whether files have these settings for the tool.
 fn says_as(settings: &ToolSettings, files: &FilesContent) -> bool
     ensures { result ≡ tool_eq settings.now (tool_of_files files.now) }
 {
@@ -288,7 +289,7 @@ fn defined_names(alloc: Global, criteria: &[Criterion]) -> Result<DefinedNames, 
     Ok(DefinedNames { names, table })
 }
 
-// Criteria of the same names that say nothing else.
+// Criteria of the same names, with nothing else.
 fn without_implied(alloc: Global, criteria: &[Criterion]) -> Result<Vec<Criterion>, AllocError>
     ensures { IfOk result (λ bare. bare.items ≡ mapped named_alone criteria.now) }
 {
@@ -304,7 +305,7 @@ fn without_implied(alloc: Global, criteria: &[Criterion]) -> Result<Vec<Criterio
     Ok(bare)
 }
 
-// Whether the criteria that files name are known, and the peers of the imports file stand in the config file.
+// Whether the criteria that files name are known, and the peers of the imports file are in the config file.
 fn check_references(known: &DefinedNames, files: &FilesContent) -> Result<(), Refusal>
     requires names { (n : List ℕ) → set.contains known.now.names n ≡ map.contains_key (defined files.now.criteria) n }
     requires table { (n : List ℕ)
@@ -318,7 +319,7 @@ fn check_references(known: &DefinedNames, files: &FilesContent) -> Result<(), Re
     Ok(())
 }
 
-// The least name of a criterion in files that none has which they define.
+// The least name of a criterion in files that is neither built in nor of a criterion that they define.
 fn unknown_of_files<'f>(known: &DefinedNames, files: &'f FilesContent) -> Option<&'f Name>
     requires names { (n : List ℕ) → set.contains known.now.names n ≡ map.contains_key (defined files.now.criteria) n }
     requires table { (n : List ℕ)
@@ -331,7 +332,7 @@ fn unknown_of_files<'f>(known: &DefinedNames, files: &'f FilesContent) -> Option
     unknown_of_targets(&known.table, policies, files.settings())
 }
 
-// The least name that a table lacks, of one handed in and of what some policies name.
+// The lesser of a given name, if there is one, and the least name in some policies that a table lacks.
 fn unknown_of_policies<'f>(
     table: &CriteriaTable,
     first: Option<&'f Name>,
@@ -347,7 +348,7 @@ fn unknown_of_policies<'f>(
     least
 }
 
-// The least name that a table lacks, of one handed in and of what the maps of some peers lead to.
+// The lesser of a given name, if there is one, and the least target of some peers' maps that a table lacks.
 fn unknown_of_targets<'f>(
     table: &CriteriaTable,
     first: Option<&'f Name>,

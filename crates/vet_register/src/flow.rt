@@ -30,7 +30,7 @@ pub(crate) fn arrivals(moves: &[RecordedMove]) -> Counts
     }
 }
 
-/// The arrivals after a recording, from those before it. Looks at the moves that come alone.
+/// The arrivals after a recording, from those before it. Looks only at the moves that are added.
 pub(crate) fn arrivals_after(arrived: Counts, recording: &Recording) -> Counts
     requires { (moves : List RecordedMove) × (arrived ≡ arrivals (changes_of moves))
         × (length (moves_by recording.now moves) < 2 ^ 64) }
@@ -43,7 +43,7 @@ pub(crate) fn arrivals_after(arrived: Counts, recording: &Recording) -> Counts
     }
 }
 
-// The arrivals of some moves and of more behind them, from those of the first.
+// The arrivals of some moves and of more after them, from the arrivals of the first.
 fn arrivals_behind(arrived: Counts, more: &[RecordedMove]) -> Counts
     requires { (moves : List RecordedMove) × (arrived ≡ arrivals (changes_of moves))
         × (length (moves ++ more.now) < 2 ^ 64) }
@@ -59,7 +59,7 @@ fn arrivals_behind(arrived: Counts, more: &[RecordedMove]) -> Counts
     }
 }
 
-// Those at one class.
+// The arrivals at one class.
 fn arrived_behind(class: Class, arrived: Counts, more: &[RecordedMove]) -> u64
     requires { (moves : List RecordedMove) × (arrived ≡ arrivals (changes_of moves))
         × (length (moves ++ more.now) < 2 ^ 64) }
@@ -70,7 +70,7 @@ fn arrived_behind(class: Class, arrived: Counts, more: &[RecordedMove]) -> u64
     arrived.of(class) + arrivals_at(class, more) as u64
 }
 
-/// How many moves depart from each class, which lead from the first counts to the present ones. Looks at no move.
+/// How many moves depart from each class, if they lead from the first counts to the present ones. Looks at no move.
 pub(crate) fn departures(first: Counts, arrived: Counts, present: Counts) -> Counts
     requires { (moves : List Move) × (arrived ≡ arrivals moves) × AreBalanced first present moves
         × (length moves < 2 ^ 64) }
@@ -86,7 +86,7 @@ pub(crate) fn departures(first: Counts, arrived: Counts, present: Counts) -> Cou
     }
 }
 
-// Those from one class: what was there at first and what arrived is what is there now and what departed.
+// The departures from one class: the first count plus the arrivals is the present count plus the departures.
 fn departed(class: Class, first: Counts, arrived: Counts, present: Counts) -> u64
     requires { (moves : List Move) × (arrived ≡ arrivals moves) × AreBalanced first present moves
         × (length moves < 2 ^ 64) }

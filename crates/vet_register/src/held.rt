@@ -1,4 +1,4 @@
-//! All that classes and the demand depend on, and its edits, each of which can be undone.
+//! Everything that classes and the demand depend on, and its edits, each of which can be undone.
 ghost use Rattle.std.specs.Prelude.{◌≡◌, IfErr, IfOk, IsTrue, is_some, true};
 ghost use Rattle.vet_base.specs.Criteria.{IsTable};
 ghost use Rattle.vet_register.specs.Held.{Fits, HeldEditsFit, HeldRoomItself, HeldRoomOnward, HeldValue, HoldsRoomOf};
@@ -17,7 +17,7 @@ use vet_demand::project::NamedProject;
 use vet_entries::facts::{Edit, EntryFacts};
 use vet_entries::laws::edits_fit_with_more_room;
 
-/// Facts of packages, policies and projects, and what a config file says to the tool alone.
+/// Facts of packages, policies and projects, and the settings of a config file that are for the tool only.
 pub struct Held {
     pub(crate) facts: EntryFacts,
     pub(crate) policies: Keyed<KeyedPolicy>,
@@ -36,17 +36,17 @@ impl Drop for Held {
     }
 }
 
-/// A change of what is held, which takes no memory.
+/// A change of what is held. It takes no memory.
 pub enum HeldEdit {
     /// Nothing changes.
     Nothing,
-    /// Of the facts of packages.
+    /// An edit of the facts of packages.
     Facts(Edit),
-    /// Of the policies.
+    /// An edit of the policies.
     Policies(KeyedEdit<KeyedPolicy>),
-    /// Of the projects.
+    /// An edit of the projects.
     Projects(KeyedEdit<NamedProject>),
-    /// All that files hold is exchanged.
+    /// Everything that files hold is replaced.
     Files(FilesHeld),
 }
 
@@ -62,7 +62,7 @@ impl Drop for HeldEdit {
     }
 }
 
-/// All that files hold: what is held but for the projects.
+/// Everything that files hold: all that is held except the projects.
 #[derive(Drop)]
 pub struct FilesHeld {
     pub facts: EntryFacts,
@@ -71,7 +71,7 @@ pub struct FilesHeld {
 }
 
 impl HeldEdit {
-    /// Whether the demand stays by this edit.
+    /// Whether this edit keeps the demand, whatever is held.
     pub(crate) fn keeps_demand(&self) -> bool
         ensures value { result ≡ keeps_demand self.now }
         ensures stays { IsTrue result → (held : HeldValue) → demand_in (edited self.now held) ≡ demand_in held }
@@ -85,7 +85,7 @@ impl HeldEdit {
         }
     }
 
-    // Makes the edit, which fits, and answers the one that undoes it. Takes no memory.
+    // Makes the edit, which fits, and returns the one that undoes it. Takes no memory.
     fn made_in(self, held: &mut Held) -> HeldEdit
         requires { Fits self held.old }
         ensures content { content_of held.new ≡ edited self (content_of held.old) }
@@ -105,7 +105,7 @@ impl HeldEdit {
 }
 
 impl Held {
-    /// Nothing but the built-in criteria. Refused: `NoMemory`.
+    /// Only the built-in criteria. Refused: `NoMemory`.
     pub(crate) fn new(alloc: Global) -> Result<Held, Refusal>
         ensures ok { IfOk result (λ held. content_of held ≡ nothing_held) }
         ensures table { IfOk result (λ held. IsTable held.facts.content.criteria) }
@@ -137,7 +137,7 @@ impl Held {
         Ok(HeldEdit::Policies(self.policies.edit_setting(copy)))
     }
 
-    /// The edit by which the policy of a key goes. Asks that it is held. Takes no memory.
+    /// The edit that drops the policy of a key. Asks that it is held. Takes no memory.
     pub(crate) fn edit_dropping_policy(&self, key: &PolicyKey) -> HeldEdit
         requires { is_some (policy_at (content_of self.now).policies key.now) ≡ true }
         ensures edit { edited result (content_of self.now) ≡ record (content_of self.now) {
@@ -151,7 +151,7 @@ impl Held {
         }
     }
 
-    /// The edit that sets the project of its name, and room for it. Refused: `NoMemory`, and never where the name is
+    /// The edit that sets a project under its name, and room for it. Refused: `NoMemory`, but never if the name is
     /// held.
     pub(crate) fn edit_of_project(&mut self, project: NamedProject) -> Result<HeldEdit, Refusal>
         ensures edit { IfOk result (λ e. edited e (content_of self.old) ≡ record (content_of self.old) {
@@ -168,7 +168,7 @@ impl Held {
         Ok(HeldEdit::Projects(self.projects.edit_setting(project)))
     }
 
-    /// The edit by which the project of a name goes. Asks that it is held. Takes no memory.
+    /// The edit that drops the project of a name. Asks that it is held. Takes no memory.
     pub(crate) fn edit_dropping_project(&self, name: &PackageName) -> HeldEdit
         requires { is_some (project_at (content_of self.now).projects name.now) ≡ true }
         ensures edit { edited result (content_of self.now) ≡ record (content_of self.now) {
@@ -182,7 +182,7 @@ impl Held {
         }
     }
 
-    /// Makes an edit that fits, and answers the one that undoes it. Takes no memory.
+    /// Makes an edit that fits, and returns the one that undoes it. Takes no memory.
     pub(crate) fn apply(&mut self, edit: HeldEdit) -> HeldEdit
         requires { Fits edit self.old }
         ensures content { content_of self.new ≡ edited edit (content_of self.old) }
@@ -194,7 +194,7 @@ impl Held {
         edit.made_in(self)
     }
 
-    // Puts what files hold in place of what is held so, and answers that. Takes no memory.
+    // Replaces everything that files hold, and returns what was held. Takes no memory.
     fn exchange(&mut self, files: FilesHeld) -> FilesHeld
         ensures facts { self.new.facts ≡ files.facts }
         ensures policies { self.new.policies ≡ files.policies }
@@ -211,8 +211,8 @@ impl Held {
     }
 }
 
-/// An edit that fits still does where the same is held and no room is lost. None is lost where nothing happens,
-/// nor by one thing after another that each lose none. Does nothing.
+/// An edit that fits still fits if the same is held and no room is lost. No room is lost if nothing happens, nor by one
+/// thing after another if neither loses any. Does nothing.
 pub(crate) fn held_edits_fit_with_more_room()
     ensures fits { HeldEditsFit }
     ensures itself { HeldRoomItself }

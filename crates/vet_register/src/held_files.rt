@@ -1,4 +1,4 @@
-//! What the files of a register hold, as copies.
+//! Copies of what the files of a register hold.
 //!
 //! **Each file of a register is written from what is held and what such a file can give, so it is read back as the same
 //! content, except that an imports file has no entries of excluded packages, and a config file no exemptions with a
@@ -34,7 +34,7 @@ use vet_files::imports_file::{ImportedPeer, ImportsContent};
 use vet_files::listed::Listed;
 use vet_graph::keeper::Keeper;
 
-/// What the imports file of a register is written from: how each peer is imported, and what the file holds.
+/// The values from which the imports file of a register is written: how each peer is imported, and the file's content.
 #[derive(Drop)]
 pub struct HeldImports {
     pub settings: Listed<PeerSettings>,
@@ -42,8 +42,8 @@ pub struct HeldImports {
 }
 
 impl<K: Keeper> Register<K> {
-    /// Copies of what an audits file holds of the register (The Cargo Vet Book, audits.toml): its criteria but the
-    /// built-in ones, in the order of their names, and its own entries but the exemptions, in that of their numbers.
+    /// Copies of what an audits file holds of the register (The Cargo Vet Book, audits.toml): its criteria except the
+    /// built-in ones, in the order of their names, and its own entries except the exemptions, in that of their numbers.
     /// Refused: `NoMemory`.
     pub fn held_audits(&self, alloc: Global) -> Result<AuditsContent, Refusal>
         ensures content { IfOk result (λ c. c ≡ audits_of self.now.state.held.facts) }
@@ -83,10 +83,9 @@ impl<K: Keeper> Register<K> {
         })
     }
 
-    /// Copies of how each held peer is imported and of what an imports file holds of the register (The Cargo Vet
-    /// Book, imports.lock): packages and peers stand in the order of their names, and a peer's entries in that of
-    /// their numbers. Entries of excluded packages are among them; the writer leaves them out. Refused:
-    /// `NoMemory`.
+    /// Copies of how each held peer is imported and of what an imports file holds of the register (The Cargo Vet Book,
+    /// imports.lock): packages and peers are in the order of their names, and a peer's entries in that of their
+    /// numbers. Entries of excluded packages are among them; the writer leaves them out. Refused: `NoMemory`.
     pub fn held_imports(&self, alloc: Global) -> Result<HeldImports, Refusal>
         ensures settings { IfOk result (λ h. h.settings ≡ settings_of self.now.state.held.facts) }
         ensures content { IfOk result (λ h. h.content ≡ imports_of self.now.state.held.facts) }
@@ -131,7 +130,7 @@ fn further_named(
     Ok(copies)
 }
 
-/// The criterion of a name, where a table has one that is not built in. Takes no memory.
+/// The criterion of a name, if a table has one that is not built in. Takes no memory.
 pub fn further_at<'t>(table: &'t CriteriaTable, name: &Name) -> Option<&'t Criterion>
     ensures { option_copied result ≡ further_at table.now name.now }
 {
@@ -141,7 +140,7 @@ pub fn further_at<'t>(table: &'t CriteriaTable, name: &Name) -> Option<&'t Crite
     table.get(name)
 }
 
-// Copies of those of some held entries that are no exemptions, without their numbers.
+// Copies of the held entries that are not exemptions, without their numbers.
 fn audits_among(alloc: Global, held: &[HeldEntry]) -> Result<Vec<Entry>, AllocError>
     ensures { IfOk result (λ copies. copies.items ≡ filter is_audit (unnumbered held.now)) }
 {
@@ -154,7 +153,7 @@ fn audits_among(alloc: Global, held: &[HeldEntry]) -> Result<Vec<Entry>, AllocEr
     Ok(copies)
 }
 
-// Copies of those of some held entries that are exemptions, without their numbers.
+// Copies of the held entries that are exemptions, without their numbers.
 fn exemptions_among(alloc: Global, held: &[HeldEntry]) -> Result<Vec<Entry>, AllocError>
     ensures { IfOk result (λ copies. copies.items ≡ filter is_exemption (unnumbered held.now)) }
 {
@@ -184,7 +183,7 @@ pub(crate) fn version_copied(version: &Option<Text>) -> Result<Option<Text>, All
     }
 }
 
-/// A copy of the criteria for a new audit, if there are some.
+/// A copy of the criteria for a new audit, if they are given.
 pub(crate) fn criteria_copied(criteria: &Option<Names>) -> Result<Option<Names>, AllocError>
     ensures { IfOk result (λ copy. copy ≡ criteria.now) }
 {
@@ -194,7 +193,7 @@ pub(crate) fn criteria_copied(criteria: &Option<Names>) -> Result<Option<Names>,
     }
 }
 
-// Copies of some policies that stand in the order of their keys.
+// Copies of some policies that are in the order of their keys.
 fn policies_copied(alloc: Global, policies: &[KeyedPolicy]) -> Result<Policies, AllocError>
     requires { IsInKeyOrder policies.now }
     ensures { IfOk result (λ copies. copies ≡ policies.now) }
@@ -239,7 +238,7 @@ fn imported(alloc: Global, peer: &HeldPeer) -> Result<ImportedPeer, AllocError>
     })
 }
 
-// Copies of some held entries without their numbers, each as its organisation speaks of it.
+// Copies of some held entries without their numbers, each as an own entry.
 fn entries_among(alloc: Global, held: &[HeldEntry]) -> Result<Vec<Entry>, AllocError>
     ensures { IfOk result (λ copies. copies.items ≡ spoken held.now) }
 {

@@ -5,8 +5,8 @@
 //! exactly if they say what is held apart from own exemptions with a last day, each list in any order.**
 //!
 //! **For a review that is opened, too many reviews are found first, then the step, then its number, and then what it
-//! refers to; for one that is finished, first what it refers to. A period that is closed is checked for its step
-//! alone.**
+//! refers to; for one that is finished, what it refers to comes first. A period that is closed is checked only for its
+//! step.**
 ghost use Rattle.vet_register.specs.RepeatedFiles.{HeldFilesAreAlready, RepeatedFilesAreAlready};
 ghost use Rattle.vet_register.specs.Repeats.{HeldContentIsAlready, RepeatedImportIsAlready};
 ghost use Rattle.vet_register.specs.ToldInOrder.{FinishedIsHeldBeforeStep, NumberBeforeCriteria, PeriodAsksForStep};
@@ -49,7 +49,7 @@ pub fn reviews_are_told_in_order()
     ensures finished { FinishedIsHeldBeforeStep }
 {}
 
-/// A period that is closed can meet the limit of steps alone.
+/// The verdict on closing a period depends only on the limit of steps.
 pub fn a_period_asks_for_its_step()
     ensures { PeriodAsksForStep }
 {}

@@ -1,10 +1,10 @@
 //! The register of audits.
 //!
-//! **After every list of commands the register's state is that of the machine which keeps the accepted
-//! ones alone, and each demanded pair stands in the class that chains of entries give it.**
+//! **After every list of commands the register's state is that of the machine which keeps only the accepted ones, and
+//! each demanded pair has the class that chains of entries give it.**
 //!
-//! Scope of this crate: the machine with its commands, those to the review desk among them, over whatever keeps the
-//! classes, and the class of one pair from an audits file. Its signatures have types of the lower crates, which callers
+//! Scope of this crate: the machine with its commands, including those to the review desk, over any keeper of the
+//! classes; and the class of one pair from an audits file. Its signatures use types of the lower crates, which callers
 //! name there.
 //!
 //! For example, a project that demands `serde 1.0.1` is loaded with the outcome `done 1 moves 2`; a full entry for

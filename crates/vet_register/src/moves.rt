@@ -26,12 +26,12 @@ impl Drop for RecordedMove {
     }
 }
 
-/// What becomes of the recorded moves.
+/// A change of the recorded moves.
 #[derive(Drop)]
 pub enum Recording {
-    /// These come behind those recorded.
+    /// These are added after those recorded.
     Behind(Vec<RecordedMove>),
-    /// None is recorded any more, and these are the counts at first.
+    /// No move is recorded any more, and these are the first counts.
     Anew(Counts),
 }
 

@@ -1,7 +1,7 @@
-//! What an accepted command changes: its edit, the demand and the standing after it, and its moves.
+//! The change that an accepted command makes: its edit, the demand and the standing after it, and its moves.
 //!
-//! The edit is made, the demand found anew where the edit may change it, the keeper asked for the standing, and the
-//! edit undone, whether or not there was memory for all that.
+//! The edit is made, the demand is recomputed if the edit may change it, the keeper plans the standing, and the edit is
+//! undone, even if memory ran out.
 ghost use Rattle.std.specs.Prelude.{◌≡◌, ℕ, ◌+◌, ◌++◌, ◌≤◌, false, List, None, Ok, Some, IfOk, IfErr, IsTrue, length};
 ghost use Rattle.vet_base.specs.Gives.{Gives};
 ghost use Rattle.vet_demand.specs.declared.pair.Pair.{Pair};
@@ -36,14 +36,15 @@ use vet_graph::keeper::Keeper;
 use vet_graph::moves::Move;
 use vet_graph::touched::Touched;
 
-// Another demand, unless it stays, and the update of the standing that goes with it.
+// The demand, unless the edit keeps it, and the update of the standing that goes with it.
 #[derive(Drop)]
 struct Found<K: Keeper> {
     demand: Option<Demand>,
     update: K::Update,
 }
 
-/// An edit of what is held, another demand, unless it stays, and the update of the standing that goes with both.
+/// An edit of what is held, the demand after it, unless the edit keeps it, and the update of the standing that goes
+/// with both.
 pub(crate) struct Planned<K: Keeper> {
     edit: HeldEdit,
     demand: Option<Demand>,
@@ -61,7 +62,7 @@ impl<K: Keeper> Drop for Planned<K> {
 }
 
 impl<K: Keeper> Planned<K> {
-    // The change by this step, which leaves this next number and has this number in its outcome.
+    // The change of this step, with this next number, and with this number in its outcome.
     fn changed(
         self,
         step: u64,
@@ -105,7 +106,8 @@ impl<K: Keeper> Planned<K> {
 }
 
 impl<K: Keeper> Register<K> {
-    /// The demand and the standing that an edit asks for, where these packages are touched. What is held stays.
+    /// Plans the demand and the standing after an edit that touches these packages. Everything that is held stays as it
+    /// is. Refused: `NoMemory`.
     pub(crate) fn plan(
         &mut self,
         alloc: Global,
@@ -154,7 +156,8 @@ impl<K: Keeper> Register<K> {
         })
     }
 
-    /// What an accepted command changes, and room for its moves.
+    /// The change that an accepted command makes; takes room for its moves. Refused: `MovesFull` if the moves do not
+    /// fit; `NoMemory`.
     pub(crate) fn change(
         &mut self,
         alloc: Global,
@@ -192,8 +195,8 @@ impl<K: Keeper> Register<K> {
         Ok(planned.changed(step, number, next_entry, desk, recording))
     }
 
-    // What becomes of the recorded moves: a command's come behind them, and there is room for these; where it ends the
-    // period, none stays, and the counts at first are those that are present.
+    // The change of the recorded moves: a command's moves come after them, and there is room for these. If it ends the
+    // period, none stays, and the present counts become the first counts.
     fn recording(
         &mut self,
         alloc: Global,
@@ -246,7 +249,7 @@ impl<K: Keeper> Register<K> {
     }
 }
 
-// The demand of what is held, where it may be another than this, and the standing by both.
+// The demand of what is held, unless it is kept, and the update of the standing by both.
 fn find_standing<K: Keeper>(
     alloc: Global,
     touching: Touching,
@@ -298,7 +301,7 @@ fn find_standing<K: Keeper>(
     })
 }
 
-// The packages that are touched, where the demand before and after is this.
+// The packages that are touched, given the demand before the edit and after it.
 fn touched_by(
     alloc: Global,
     touching: Touching,

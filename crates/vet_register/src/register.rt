@@ -8,26 +8,25 @@
 //! for all that will be added. The state stays as it is. `install` makes the change, takes no memory and can't fail. A
 //! change that isn't installed is dropped. A command to the review desk takes the same two calls (`at_desk`).
 //!
-//! To plan (`plan`), the register makes the edit, finds the demand, asks the keeper, and makes the edit that undoes it,
-//! whether or not there was memory. So what is held is never copied, and the edit that undoing returns is the one that
-//! `install` makes. The effect of a change on a state is one equation (`changed`), which is proved to be the machine's
-//! step, to a sound state, where the change is prepared. `install` does what it says, in the same way for all commands.
+//! The plan (`plan`) makes the edit, finds the demand, asks the keeper, and undoes the edit, even if memory ran out. So
+//! what is held is never copied, and the edit that undoing returns is the one that `install` makes. The effect of a
+//! change on a state is one equation (`changed`). It is proved to be the machine's step, to a sound state, if the
+//! change is prepared. `install` does what the equation says, in the same way for all commands.
 //!
 //! The parts of `prepare`, in their order, and where each takes memory:
 //! - The verdict (`verdict`; for files `files_verdict`, for the desk `at_desk`, for SetDay `today`): held already,
 //!   limits, references, rules. It takes memory for the name of an unknown criterion, and more to compare an import or
 //!   files, and to make the entry of a finished review.
 //! - The edit (`edits`, `at_desk`, `today`): copies of what is set or added, room for it, and the names of the packages
-//!   that are touched (`touching`). Commands that drop a policy, a project or a criterion take none here, nor does
-//!   ClosePeriod.
-//! - The plan (`plan`): the demand after the edit, the standing by it, and the moves to that. Between an edit and its
-//!   undo the demand is found anew, unless the edit keeps it (`keeps_demand`).
-//! - The change (`plan`): whether the moves fit, copies of those to record, and room for them.
+//!   that are touched (`touching`). Commands that drop a policy or a project take none here, nor does ClosePeriod.
+//! - The plan (`plan`): the demand after the edit, the standing by it, and the moves to that. The demand is recomputed
+//!   between an edit and its undo, unless the edit keeps it (`keeps_demand`).
+//! - The change (`plan`): whether the moves fit, copies of the moves to record, and room for them.
 //!
 //! If memory runs out in any part, the refusal is `NoMemory` and the state is as it was. `install` asks that this
-//! register prepared the change, on this state, and still has the room. Preparing another command in between changes no
-//! state, and loses no room (`KeepsRoom`) and no planned update (`KeepsReady`). So what was prepared stays prepared
-//! (`KeepsPrepared`), and can be installed afterwards.
+//! register prepared the change, on this state, and still has the room. If another command is prepared in between, that
+//! changes no state, and loses no room (`KeepsRoom`) and no planned update (`KeepsReady`). So what was prepared stays
+//! prepared (`KeepsPrepared`), and can be installed afterwards.
 ghost use Rattle.std.specs.Prelude.{◌≡◌, ◌<◌, ◌≤◌, Ok, IfOk, IfErr, OnErr, length, map};
 ghost use Rattle.vet_base.specs.Gives.{Gives};
 ghost use Rattle.vet_graph.specs.Standing.{class_in, counts_of, total_of};
@@ -73,8 +72,8 @@ use vet_graph::laws::{
 };
 use vet_graph::standing::{Counts, Stand};
 
-/// What an organisation holds, the class of each demanded pair, and how these came about. A keeper keeps the
-/// classes; which one it is changes no answer.
+/// The facts that an organisation holds, the class of each demanded pair, and how these came about. A keeper keeps the
+/// classes; the choice of the keeper changes no answer.
 pub struct Register<K: Keeper> {
     pub(crate) held: Held,
     pub(crate) desk: Desk,
@@ -85,7 +84,7 @@ pub struct Register<K: Keeper> {
     pub(crate) moves_limit: usize,
     pub(crate) first: Counts,
     pub(crate) moves: Vec<RecordedMove>,
-    // of the recorded moves
+    // the arrivals of the recorded moves
     pub(crate) arrived: Counts,
 }
 
@@ -165,8 +164,8 @@ impl<K: Keeper> Drop for Register<K> {
 }
 
 impl<K: Keeper> Register<K> {
-    /// A register that holds nothing but the built-in criteria, so that nothing is demanded and the counts at first
-    /// are zeros, with a desk at which nobody is. Asks for a limit of 1 to 1,000,000 moves. Refused: `NoMemory`.
+    /// A register that holds only the built-in criteria, with an empty desk. Nothing is demanded, and the first counts
+    /// are zeros. Asks for a limit of 1 to 1,000,000 moves. Refused: `NoMemory`.
     pub fn new(alloc: Global, moves_limit: usize) -> Result<Register<K>, Refusal>
         requires { (0 < moves_limit) × (moves_limit ≤ MOST_MOVES) }
         ensures start { IfOk result (λ r. r.state ≡ start moves_limit) }
@@ -198,17 +197,18 @@ impl<K: Keeper> Register<K> {
         })
     }
 
-    /// The verdict on a command, and what it would change. The state stays, whatever the verdict. Room is taken for
-    /// what `install` adds, and what was prepared on this state before can still be installed. The keeper gets the
-    /// packages that are touched. Refused, the first that holds: `TooManyCriteria`, `TooLarge` of `peers`, `entries`,
-    /// `publishers`, `policies`, `projects`, `members`, `reviews`, `step` or `number`; `UnknownCriterion`,
-    /// `UnknownEntry`, `UnknownPeer`, `UnknownPolicy`, `UnknownProject`, `UnknownMember`, `UnknownReview`;
-    /// `BuiltInCriterion`, `CriterionInUse`, `EmptyWindow`, `WindowTooLong`, `ReviewClosed`, `NotYours`, `WrongTarget`,
-    /// `NotDemanded`, `DayGoesBack`; `MovesFull`. For a review that is finished, `TooLarge` comes after the rules.
-    /// `NoMemory` replaces `UnknownCriterion`, or comes if no refusal before `MovesFull` holds. A command whose content
-    /// is held is never refused so, except an import and files: comparing these with what is held takes memory, so
-    /// `NoMemory` may replace any verdict. The entry of a finished review is compared too, after the rules of the desk:
-    /// `NoMemory` may replace what would be found after these, and nothing before.
+    /// The verdict on a command, and the change that it would make. The state stays as it is, whatever the verdict.
+    /// Room is taken for what `install` adds, and what was prepared on this state before can still be installed. The
+    /// keeper gets the packages that are touched. Refused, the first that applies: `TooManyCriteria`, `TooLarge` of
+    /// `peers`, `entries`, `publishers`, `policies`, `projects`, `members`, `reviews`, `step` or `number`;
+    /// `UnknownCriterion`, `UnknownEntry`, `UnknownPeer`, `UnknownPolicy`, `UnknownProject`, `UnknownMember`,
+    /// `UnknownReview`; `BuiltInCriterion`, `CriterionInUse`, `EmptyWindow`, `WindowTooLong`, `ReviewClosed`,
+    /// `NotYours`, `WrongTarget`, `NotDemanded`, `DayGoesBack`; `MovesFull`. For a review that is finished, `TooLarge`
+    /// comes after the rules. `NoMemory` may replace `UnknownCriterion`, or be returned if no refusal before
+    /// `MovesFull` applies. A command whose content is already held is never refused so, except an import and files:
+    /// these are compared with what is held, which takes memory, so `NoMemory` may replace any verdict on them. The
+    /// entry of a finished review is compared too, after the rules of the desk: `NoMemory` may replace any verdict
+    /// found after these rules, and none found before.
     pub fn prepare(&mut self, alloc: Global, command: &Command) -> Result<Prepared<K>, Refusal>
         ensures told { Gives answer_of (verdict self.old.state command.now) result }
         ensures exact { IsExact (wants_memory self.old.state command.now.action)
@@ -271,7 +271,7 @@ impl<K: Keeper> Register<K> {
 }
 
 impl<K: Keeper> Register<K> {
-    /// Prepares a command and installs what it changes. After a refusal the state is as it was. Refused: what
+    /// Prepares a command and installs its change. After a refusal the state is as it was. Refused: everything that
     /// `prepare` refuses.
     pub fn run(&mut self, alloc: Global, command: &Command) -> Result<Outcome, Refusal>
         ensures turn { IsTurn self.old.state command.now result self.new.state }
@@ -287,8 +287,9 @@ impl<K: Keeper> Register<K> {
         }
     }
 
-    /// Runs commands one after the other, whatever becomes of each, and returns the outcome of each in the state of its
-    /// turn. Room for the outcomes is taken first. Refused, with nothing run: `NoMemory`.
+    /// Runs commands one after the other, each in the state that those before it left, and returns the outcome or the
+    /// refusal of each. A refused command does not stop the others. Room for the outcomes is taken first. Refused, with
+    /// nothing run: `NoMemory`.
     pub fn run_all(
         &mut self,
         alloc: Global,
@@ -317,7 +318,7 @@ impl<K: Keeper> Register<K> {
         let _ = &self.step;
     }
 
-    /// The class at which a pair stands, or none where it isn't demanded. Takes no memory.
+    /// The class of a pair, or `None` if it isn't demanded. Takes no memory.
     pub fn class(
         &self,
         package: &PackageName,
@@ -333,7 +334,7 @@ impl<K: Keeper> Register<K> {
         self.keeper.class(package, version, criterion)
     }
 
-    /// What keeps the classes. Takes no memory.
+    /// The keeper of the classes. Takes no memory.
     pub fn keeper(&self) -> &K
         ensures { result.now ≡ self.now.keeper }
     {
@@ -348,7 +349,7 @@ impl<K: Keeper> Register<K> {
         self.keeper.stands(alloc)
     }
 
-    /// How many demanded pairs stand in each class. Takes no memory.
+    /// The number of demanded pairs in each class. Takes no memory.
     pub fn counts(&self) -> Counts
         ensures value { result ≡ counts_of (standing self.now.state) }
         ensures total { total_of result ≡ length (demanded self.now.state) }
@@ -358,28 +359,28 @@ impl<K: Keeper> Register<K> {
         self.keeper.counts()
     }
 
-    /// How many stood in each class at first. Takes no memory.
+    /// The number of demanded pairs that were in each class when the period began. Takes no memory.
     pub fn first_counts(&self) -> Counts
         ensures { result ≡ self.now.state.first }
     {
         self.first
     }
 
-    /// How many of the moves since then arrive at each class. Takes no memory, and looks at none of them.
+    /// The number of recorded moves that arrive at each class. Takes no memory, and looks at no move.
     pub fn arrivals(&self) -> Counts
         ensures { result ≡ arrivals (changes_of self.now.state.moves) }
     {
         self.arrived
     }
 
-    /// How many of them depart from each class. Takes no memory, and looks at none of them.
+    /// The number of recorded moves that depart from each class. Takes no memory, and looks at no move.
     pub fn departures(&self) -> Counts
         ensures { result ≡ departures (changes_of self.now.state.moves) }
     {
         departures(self.first, self.arrived, self.keeper.counts())
     }
 
-    /// The moves since the first counts, in the order of their steps and, in one step, of their pairs. Takes no memory.
+    /// The recorded moves, in the order of their steps and, within a step, of their pairs. Takes no memory.
     pub fn moves(&self) -> &[RecordedMove]
         ensures { result.now ≡ self.now.state.moves }
     {
@@ -393,7 +394,7 @@ impl<K: Keeper> Register<K> {
         &self.desk
     }
 
-    /// How many commands were accepted. Takes no memory.
+    /// The number of commands that were accepted. Takes no memory.
     pub fn step(&self) -> u64
         ensures { result ≡ self.now.state.step }
     {
@@ -407,14 +408,14 @@ impl<K: Keeper> Register<K> {
         self.next_entry
     }
 
-    /// The most moves that are recorded. Takes no memory.
+    /// The greatest number of moves that may be recorded. Takes no memory.
     pub fn moves_limit(&self) -> usize
         ensures { result ≡ self.now.state.moves_limit }
     {
         self.moves_limit
     }
 
-    /// All that is held of packages. Takes no memory.
+    /// The facts of packages that are held. Takes no memory.
     pub fn facts(&self) -> &EntryFacts
         ensures value { result.now.content ≡ self.now.state.held.facts }
         ensures sound { IsSound self.now.state }
@@ -464,7 +465,7 @@ impl<K: Keeper> Register<K> {
         self.held.projects.items()
     }
 
-    /// What a config file says to the tool alone. Takes no memory.
+    /// The settings of a config file that are for the tool only. Takes no memory.
     pub fn settings(&self) -> &ToolSettings
         ensures { result.now ≡ self.now.state.held.settings }
     {
@@ -479,7 +480,7 @@ impl<K: Keeper> Register<K> {
     }
 }
 
-// Makes an edit of the desk, if there is one, that it prepared.
+// Makes an edit that the desk prepared, if there is one.
 fn change_desk(desk: &mut Desk, edit: Option<DeskEdit>)
     requires { HoldsDesk edit desk.old }
     ensures { desk.new.content ≡ desk_edited edit desk.old.content }
@@ -489,7 +490,7 @@ fn change_desk(desk: &mut Desk, edit: Option<DeskEdit>)
     }
 }
 
-// Puts another demand, if there is one, in place of the one that is held.
+// Replaces the demand by another one, if there is one.
 fn exchange(demand: &mut Demand, other: Option<Demand>)
     ensures { demand.new ≡ demand_by other demand.old }
 {

@@ -1,11 +1,11 @@
-//! A register that is made of a state.
+//! A register that is made from a state.
 //!
 //! **A sound state gives the register of that state, and one that isn't sound is refused.**
 //!
-//! What the types of the parts don't say is checked first, in an order in which each check may rest on those before
-//! it: of what is held (`sound_held`, and by source `sound_entries`, `sound_peers`, `sound_numbers`), of the desk, and
-//! of the moves (`sound_moves`). Then the demand is found and the keeper asked for the standing, as where a command is
-//! prepared. At last the counts are compared with the standing. No entry is copied: the parts become the register's.
+//! Everything that the types of the parts don't say is checked first, in an order in which each check may rely on those
+//! before it: what is held (`sound_held`, and by source `sound_entries`, `sound_peers`, `sound_numbers`), the desk, and
+//! the moves (`sound_moves`). Then the demand is found and the keeper plans the standing, as for a command that is
+//! prepared. Last, the counts are compared with the standing. No entry is copied: the parts become the register's.
 ghost use Rattle.std.specs.Prelude.{◌≡◌, ◌↔◌, IfErr, IfOk, IsTrue};
 ghost use Rattle.vet_demand.specs.DemandOf.{HasDemanded};
 ghost use Rattle.vet_entries.specs.Step.{AreKnown};
@@ -34,8 +34,8 @@ use vet_graph::standing::Counts;
 use vet_graph::touched::Touched;
 
 impl<K: Keeper> Register<K> {
-    /// The register of a state. Takes its parts over, and copies no entry. Refused: `NotARegister` where the state
-    /// isn't sound, and `NoMemory`.
+    /// The register of a state. Takes its parts over, and copies no entry. Refused: `NotARegister` if the state isn't
+    /// sound; `NoMemory`.
     pub fn restore(alloc: Global, state: State) -> Result<Register<K>, Refusal>
         ensures ok { IfOk result (λ r. r.state ≡ state) }
         ensures refused { IfErr result (Faults (IsSound state)) }
@@ -51,7 +51,7 @@ impl<K: Keeper> Register<K> {
 }
 
 impl State {
-    // Whether the state is sound but for the counts, of which nothing is asked.
+    // Whether the state is sound, except for its counts, which are not checked.
     fn check(&self, alloc: Global) -> Result<(), Refusal>
         ensures { Checks (IsSoundButCounts self.now) result }
     {
@@ -86,7 +86,7 @@ impl State {
         Ok(())
     }
 
-    // What the projects demand.
+    // The demand of the projects.
     fn demand(&self, alloc: Global) -> Result<Demand, Refusal>
         requires { IsSoundButCounts self.now }
         ensures value { IfOk result (λ d. d ≡ demanded self.now) }
@@ -111,7 +111,7 @@ impl State {
         keeper_of(alloc, &self.facts, demand)
     }
 
-    // Whether the moves lead from the counts at first to these.
+    // Whether the moves lead from the first counts to these.
     fn leads_to(&self, counts: Counts) -> bool
         ensures { IsTrue result ↔ AreBalanced self.now.first counts (changes_of self.now.moves) }
     {

@@ -1,6 +1,7 @@
 //! Whether entries that are held are sound.
 //!
-//! **Entries pass just where each is of the source, no two are the same, and their numbers rise below the next one.**
+//! **Entries pass exactly if each is of the source, no two are the same, and their numbers increase and are below the
+//! next one.**
 ghost use Rattle.std.specs.List.{All};
 ghost use Rattle.std.specs.Prelude.{◌≡◌, ◌↔◌, IsTrue};
 ghost use Rattle.vet_entries.specs.Numbered.{AreByNumber};
@@ -16,8 +17,8 @@ use vet_entries::entry::Source;
 use vet_entries::facts::{EntryFacts, HeldEntry};
 use vet_entries::held_peer::HeldPeer;
 
-/// Whether entries are sound as those of a source, where this is the next number. Asks that their numbers rise. Costs
-/// a search among those before it for each.
+/// Whether entries are sound as those of a source, given the next number. Asks that their numbers increase. Costs, for
+/// each entry, a search among those before it. Refused: `NotARegister` if they are not; `NoMemory`.
 pub(crate) fn check_entries(
     alloc: Global,
     source: &Source,
@@ -60,7 +61,7 @@ fn are_from(source: &Source, entries: &[HeldEntry]) -> bool
     entries.iter().all(|held| held.entry.source == *source)
 }
 
-// Whether each entry's number lies below the next one.
+// Whether each entry's number is below the next one.
 fn are_given(entries: &[HeldEntry], next: u64) -> bool
     ensures { IsTrue result ↔ All (IsGiven next) entries.now }
 {

@@ -1,7 +1,8 @@
-//! Whether all that is held is sound, and the desk beside it.
+//! Whether everything that is held is sound, and the desk too.
 //!
-//! **It passes just where it is sound.** What the types of its parts say of each of their values is not looked at
-//! again: the order of criteria, entries, peers, records, policies and projects, and that the table is one.
+//! **It passes exactly if it is sound.** Anything that the types of its parts say of each of their values is not
+//! checked again: the order of criteria, entries, peers, records, policies and projects, and that the table is a table
+//! of criteria.
 ghost use Rattle.std.specs.Cmp.Lexicographic.{slice_cmp};
 ghost use Rattle.std.specs.List.{All};
 ghost use Rattle.std.specs.Ordering.{nat_cmp};
@@ -34,8 +35,8 @@ use vet_entries::facts::EntryFacts;
 use vet_entries::held_peer::HeldPeer;
 use vet_entries::publisher_records::PackagePublishers;
 
-/// Whether facts of packages are sound, where this is the next number. Costs a search and a look-up by a hash for each
-/// entry.
+/// Whether facts of packages are sound, given the next number. Costs a search and a look-up by a hash for each entry.
+/// Refused: `NotARegister` if they are not; `NoMemory`.
 pub(crate) fn check_facts(alloc: Global, facts: &EntryFacts, next: u64) -> Result<(), Refusal>
     ensures { Checks (AreSound facts.now.content next) result }
 {
@@ -48,7 +49,7 @@ pub(crate) fn check_facts(alloc: Global, facts: &EntryFacts, next: u64) -> Resul
     check_apart(alloc, facts, next)
 }
 
-/// Whether policies name criteria of the table alone, and are within their limit.
+/// Whether policies name only criteria of the table, and are within their limit.
 pub(crate) fn check_policies(
     criteria: &CriteriaTable,
     policies: &Keyed<KeyedPolicy>,
@@ -75,7 +76,7 @@ pub(crate) fn check_projects(projects: &Keyed<NamedProject>) -> Result<(), Refus
     Ok(())
 }
 
-/// Whether the reviews that aren't closed name criteria of the table alone, and the entry of each finished one has a
+/// Whether the reviews that aren't closed name only criteria of the table, and the entry of each finished one has a
 /// number below the next one.
 pub(crate) fn check_desk(criteria: &CriteriaTable, desk: &Desk, next: u64) -> Result<(), Refusal>
     ensures { Checks (IsSoundAtDesk criteria.now desk.now.content next) result }
@@ -138,7 +139,7 @@ fn check_publishers(facts: &EntryFacts) -> Result<(), Refusal>
     Ok(())
 }
 
-// The records of each package stand in order. Does nothing.
+// The records of each package are in order. Does nothing.
 fn stand_in_order(packages: &[PackagePublishers])
     ensures { All (λ held. IsInOrder held.publishers) packages.now }
 {

@@ -1,8 +1,7 @@
 //! Whether recorded moves are sound, and the counts balanced.
 //!
-//! **Moves pass just where they stand in the order in which they were recorded, within the step and the limit. Counts
-//! are balanced just where, of each class, what was there at first and what arrived is what is there now and what
-//! departed.**
+//! **Moves pass exactly if they are in the order in which they were recorded, within the step and the limit. Counts are
+//! balanced exactly if, for each class, the first count plus the arrivals is the present count plus the departures.**
 ghost use Rattle.std.specs.List.{All, AllPairs};
 ghost use Rattle.std.specs.Option.{option_eq};
 ghost use Rattle.std.specs.Prelude.{◌≡◌, ◌↔◌, IsTrue, Some};
@@ -18,8 +17,8 @@ use vet_base::refusal::Refusal;
 use vet_graph::class::Class;
 use vet_graph::standing::Counts;
 
-/// Whether moves stand in their order, none of a later step than this, and within a limit. Costs a look at each, and a
-/// comparison with the next.
+/// Whether moves are in their order, none of a later step than this, and within a limit. Costs a look at each, and a
+/// comparison with the next. Refused: `NotARegister` if they are not.
 pub(crate) fn check_moves(moves: &[RecordedMove], step: u64, limit: usize) -> Result<(), Refusal>
     ensures { Checks (AreInOrder moves.now step limit) result }
 {
@@ -61,7 +60,7 @@ fn are_by(step: u64, moves: &[RecordedMove]) -> bool
     moves.iter().all(|recorded| recorded.step <= step)
 }
 
-// Whether each move was recorded before those behind it.
+// Whether each move was recorded before those after it.
 fn are_in_order(moves: &[RecordedMove]) -> bool
     ensures { IsTrue result ↔ AllPairs ComesBefore moves.now }
 {
@@ -117,7 +116,7 @@ fn departures_from(class: Class, moves: &[RecordedMove]) -> usize
         .count()
 }
 
-// Whether this is a class.
+// Whether there is a class, and it is this one.
 fn is_in(found: Option<Class>, class: Class) -> bool
     ensures { result ≡ option_eq same_class found (Some class) }
 {

@@ -1,8 +1,8 @@
 //! Whether the numbers of entries are apart.
 //!
-//! **They are just where no number stands in two sources.**
+//! **They are apart exactly if no number occurs in two sources.**
 //!
-//! Within a source numbers rise. So they are apart just where among those of all sources none stands twice.
+//! Within a source numbers increase. So they are apart exactly if no number occurs twice among those of all sources.
 ghost use Rattle.std.specs.List.{All, AllPairs};
 ghost use Rattle.std.specs.Prelude.{◌≡◌, ◌≢◌, ◌↔◌, ◌++◌, IfOk, IsTrue, OnOk};
 ghost use Rattle.vet_register.specs.Checks.{Checks};
@@ -15,7 +15,8 @@ use vet_base::refusal::Refusal;
 use vet_entries::facts::{EntryFacts, HeldEntry};
 use vet_entries::held_peer::HeldPeer;
 
-/// Whether no number stands in two sources. Asks that peers are sound. Costs one look-up by a hash for each entry.
+/// Whether no number occurs in two sources. Asks that peers are sound. Costs one look-up by a hash for each entry.
+/// Refused: `NotARegister` if one does; `NoMemory`.
 pub(crate) fn check_apart(alloc: Global, facts: &EntryFacts, next: u64) -> Result<(), Refusal>
     requires { All (IsSoundPeer next) facts.now.content.peers }
     ensures { Checks (AreApart facts.now.content) result }
@@ -49,7 +50,7 @@ fn add_numbers(numbers: &mut Vec<u64>, entries: &[HeldEntry]) -> Result<(), Allo
     Ok(())
 }
 
-// Whether no number stands twice.
+// Whether no number occurs twice.
 fn stand_once(alloc: Global, numbers: &[u64]) -> Result<bool, AllocError>
     ensures { IfOk result (λ once. IsTrue once ↔ AllPairs (λ m n. m ≢ n) numbers.now) }
 {

@@ -1,10 +1,10 @@
 //! Whether peers that are held are sound.
 //!
-//! **A peer passes just where its entries are sound, and some file that a reader can read gives its criteria and these
+//! **A peer passes exactly if its entries are sound, and some file that a reader can read gives its criteria and these
 //! entries.**
 //!
-//! That file needn't be sought among all: if there is one, then the criteria beside the built-in ones, and the entries
-//! as the peer's own, are such a content too. So these are looked at.
+//! No search for such a file is needed: if there is one, then the criteria besides the built-in ones, and the entries
+//! as the peer's own, are such a content too. So only these are checked.
 ghost use Rattle.std.specs.List.{All};
 ghost use Rattle.std.specs.Prelude.{◌≡◌, ◌↔◌, ◌≤◌, IfErr, IfOk, IsTrue, length};
 ghost use Rattle.vet_entries.specs.PeerContent.{PeerContentValue, is_peer_kind, may_import};
@@ -26,8 +26,8 @@ use vet_entries::held_peer::HeldPeer;
 use vet_entries::holding::Holding;
 use vet_entries::kind::{Audit, Kind};
 
-/// Whether each peer is sound, where this is the next number. Costs a search among those before it for each entry,
-/// and copies of the criteria.
+/// Whether each peer is sound, given the next number. Costs, for each entry, a search among those before it, and copies
+/// of the criteria. Refused: `NotARegister` if one is not; `NoMemory`.
 pub(crate) fn check_each_peer(alloc: Global, peers: &[HeldPeer], next: u64) -> Result<(), Refusal>
     ensures { Checks (All (IsSoundPeer next) peers.now) result }
 {
@@ -47,7 +47,7 @@ fn check_peer(alloc: Global, peer: &HeldPeer, next: u64) -> Result<(), Refusal>
     check_content(alloc, &peer.settings.name, &peer.content, next)
 }
 
-// Whether what is held of a peer is what some content is. Asks that its entries are sound.
+// Whether the holding of a peer is that of some content. Asks that its entries are sound.
 fn check_content(alloc: Global, name: &Name, content: &Holding, next: u64) -> Result<(), Refusal>
     requires { AreEntries (Peer name.now) content.now.entries next }
     ensures { Checks ((held : PeerContentValue) × IsOfContent name.now held content.now) result }
@@ -92,7 +92,7 @@ fn may_import(audit: &Audit) -> bool
     }
 }
 
-// Whether a peer's file can define these criteria: that is, whether those beside the built-in ones define the same.
+// Whether a peer's file can define these criteria: that is, whether those besides the built-in ones define the same.
 fn are_defined(alloc: Global, definitions: &Definitions) -> Result<bool, Refusal>
     ensures ok { IfOk result (λ defined. IsTrue defined ↔ AreOfPeer definitions.now) }
     ensures memory { IfErr result (λ e. e ≡ Refusal.NoMemory) }

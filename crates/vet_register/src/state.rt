@@ -1,8 +1,8 @@
 //! The state of a machine, as a value made of its parts.
 //!
-//! **It is the state that its parts say, whatever room they have.**
+//! **The value is the state that its parts give, whatever room they have.**
 //!
-//! Whoever keeps a register elsewhere makes such a value of what was kept, and a register of it again
+//! A caller that keeps a register elsewhere makes such a value from what was kept, and restores the register from it
 //! (`Register::restore`).
 ghost use Rattle.std.specs.Prelude.{◌≡◌};
 ghost use Rattle.vet_register.specs.RegisterView.{HasKept};
@@ -25,21 +25,21 @@ use vet_graph::standing::Counts;
 
 /// All that a machine holds. It needn't be sound.
 pub struct State {
-    /// What is held of packages.
+    /// The facts of packages.
     pub facts: EntryFacts,
     pub policies: Keyed<KeyedPolicy>,
     pub projects: Keyed<NamedProject>,
-    /// What a config file says to the tool alone.
+    /// The settings of a config file that are for the tool only.
     pub settings: ToolSettings,
     pub desk: Desk,
-    /// How many commands were accepted.
+    /// The number of commands that were accepted.
     pub step: u64,
     /// The number of the next entry.
     pub next_entry: u64,
     pub moves_limit: usize,
-    /// How many pairs stood in each class at first.
+    /// The number of pairs that were in each class when the period began.
     pub first: Counts,
-    /// The moves since then.
+    /// The moves recorded since then.
     pub moves: Vec<RecordedMove>,
 }
 

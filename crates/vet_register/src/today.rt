@@ -29,7 +29,7 @@ impl<K: Keeper> Register<K> {
         self.held.facts.today()
     }
 
-    /// What SetDay changes on a day, or that this is the register's day already. Refused, the first that holds:
+    /// The effect of SetDay on a day, or `Already` if it is the register's day. Refused, the first that applies:
     /// `TooLarge` of `step`; `DayGoesBack` if the day is before the register's. `NoMemory` if no check refuses.
     pub(crate) fn set_day(&mut self, alloc: Global, day: Day) -> Result<Asked, Refusal>
         ensures asked { Asks self.old.state self.new day action.SetDay

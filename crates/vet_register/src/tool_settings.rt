@@ -1,4 +1,4 @@
-//! What a config file says to the tool alone.
+//! The settings of a config file that are for the tool only.
 ghost use Rattle.std.specs.Prelude.{◌≡◌, IfOk};
 ghost use Rattle.vet_register.specs.ToolSettings.{no_settings, tool_eq};
 
@@ -6,11 +6,12 @@ use std::alloc::AllocError;
 use vet_base::names::Names;
 use vet_base::text::Text;
 
-/// What a config file says to the tool alone (The Cargo Vet Book, config file). It changes no class and no demand.
+/// The settings of a config file that are for the tool only (The Cargo Vet Book, config file). They change no class and
+/// no demand.
 pub struct ToolSettings {
     /// The version of cargo-vet that the file names.
     pub vet_version: Option<Text>,
-    /// The criteria that a new audit is for where nothing else is said. None of them is looked up.
+    /// The criteria of a new audit if nothing else is said. None of them is looked up.
     pub default_criteria: Option<Names>,
 }
 

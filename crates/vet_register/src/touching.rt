@@ -133,7 +133,7 @@ fn push_of_entries(names: &mut Vec<PackageName>, entries: &[Entry]) -> Result<()
     Ok(())
 }
 
-/// The packages at which two demands differ. One walk along both. Refused: `NoMemory`.
+/// The packages at which two demands differ. Costs one walk along both. Refused: `NoMemory`.
 pub(crate) fn touched_between(
     alloc: Global,
     before: &[Pair],

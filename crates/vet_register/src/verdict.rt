@@ -42,10 +42,10 @@ use vet_entries::peer_settings::PeerSettings;
 use vet_entries::publishers::Publishers;
 use vet_graph::keeper::Keeper;
 
-/// The verdict on a command that nothing refuses.
+/// The verdict on a command that is not refused.
 #[derive(Clone, Copy, PartialEq, Eq)]
 pub enum Answer {
-    /// What it sets or adds is held already; an entry, under this number.
+    /// The thing that it sets or adds is already held; if it is an entry, under this number.
     Already(Option<u64>),
     /// It is accepted.
     Accepted,
@@ -70,7 +70,7 @@ impl<K: Keeper> Register<K> {
         Ok(Answer::Accepted)
     }
 
-    /// Whether it may remove the criterion of a name.
+    /// Whether the criterion of a name may be removed.
     pub(crate) fn judge_removal(&self, name: &Name) -> Result<(), Refusal>
         ensures { (day : DayValue)
             → Answers (checked self.now.state day (action.RemoveCriterion name.now)) result }
@@ -136,7 +136,7 @@ impl<K: Keeper> Register<K> {
         Ok(Answer::Accepted)
     }
 
-    /// Whether it may drop the peer of a name.
+    /// Whether the peer of a name may be dropped.
     pub(crate) fn judge_peer_drop(&self, name: &Name) -> Result<(), Refusal>
         ensures { (day : DayValue)
             → Answers (checked self.now.state day (action.DropPeer name.now)) result }
@@ -145,8 +145,8 @@ impl<K: Keeper> Register<K> {
         self.check_peer(name)
     }
 
-    /// The verdict on importing a content from the peer of a name: nothing changes, or how the content compares with
-    /// what is held.
+    /// The verdict on importing a content from the peer of a name: `None` if nothing changes, otherwise how the content
+    /// compares with what is held.
     pub(crate) fn judge_import(
         &self,
         alloc: Global,
@@ -167,7 +167,7 @@ impl<K: Keeper> Register<K> {
         Ok(Some(comparison))
     }
 
-    // What an import from a peer that isn't held is refused for.
+    // The refusal of an import from a peer that isn't held.
     fn refused_import(&self, name: &Name, content: &PeerContent) -> Refusal
         requires { peer_of self.now.state.held.facts.peers name.now ≡ None }
         ensures { (day : DayValue) → judged self.now.state day (action.ImportPeer name.now content.now) ≡ Err result }
@@ -209,7 +209,7 @@ impl<K: Keeper> Register<K> {
         Ok(Answer::Accepted)
     }
 
-    /// Whether it may drop the policy of a key.
+    /// Whether the policy of a key may be dropped.
     pub(crate) fn judge_policy_drop(&self, key: &PolicyKey) -> Result<(), Refusal>
         ensures { (day : DayValue)
             → Answers (checked self.now.state day (action.DropPolicy key.now)) result }
@@ -231,7 +231,7 @@ impl<K: Keeper> Register<K> {
         Ok(Answer::Accepted)
     }
 
-    /// Whether it may drop the project of a name.
+    /// Whether the project of a name may be dropped.
     pub(crate) fn judge_project_drop(&self, name: &PackageName) -> Result<(), Refusal>
         ensures { (day : DayValue)
             → Answers (checked self.now.state day (action.DropProject name.now)) result }
@@ -240,7 +240,7 @@ impl<K: Keeper> Register<K> {
         self.check_project(name)
     }
 
-    // Whether an own entry, a target of a peer's map or a policy names a criterion, or a review that isn't closed.
+    // Whether an own entry, a target of a peer's map, a policy or a review that isn't closed names a criterion.
     fn uses_criterion(&self, name: &Name) -> bool
         ensures { result ≡ is_used self.now.state name.now }
     {
@@ -253,7 +253,7 @@ impl<K: Keeper> Register<K> {
         self.desk.names_criterion(name)
     }
 
-    // Whether a policy is held as it is.
+    // Whether an equal policy is held.
     fn has_policy(&self, policy: &KeyedPolicy) -> bool
         ensures { result ≡ has_policy self.now.state.held.policies policy.now }
     {
@@ -263,7 +263,7 @@ impl<K: Keeper> Register<K> {
         }
     }
 
-    // Whether a project is held as it is.
+    // Whether an equal project is held.
     fn has_project(&self, project: &NamedProject) -> bool
         ensures { result ≡ has_project self.now.state.held.projects project.now }
     {
@@ -318,7 +318,7 @@ impl<K: Keeper> Register<K> {
         Ok(())
     }
 
-    /// How many entries there are of all sources.
+    /// The number of held entries of all sources.
     pub(crate) fn entries_total(&self) -> usize
         ensures value { result ≡ entries_total self.now.state.held.facts }
         ensures few { result ≤ MOST_ENTRIES }
@@ -327,7 +327,7 @@ impl<K: Keeper> Register<K> {
         self.held.facts.entries_total()
     }
 
-    // The limits that an import meets, where so many of its entries are new.
+    // Checks an import against the limits, if this many of its entries are new.
     fn check_import(&self, name: &Name, content: &PeerContent, count: usize) -> Result<(), Refusal>
         ensures { result ≡ import_limits self.now.state name.now (length content.now.entries) count }
     {
@@ -336,7 +336,7 @@ impl<K: Keeper> Register<K> {
         self.check_number_limit(count)
     }
 
-    // How many entries there are of all sources but one peer.
+    // The number of held entries of all sources except one peer.
     fn entries_beside(&self, name: &Name) -> usize
         ensures value { result ≡ entries_beside self.now.state.held.facts name.now }
         ensures few { result ≤ MOST_ENTRIES }
@@ -391,7 +391,7 @@ impl<K: Keeper> Register<K> {
     }
 }
 
-/// So many entries, and so many more, are within their limit.
+/// Whether this many held entries, and this many more, are within their limit.
 pub(crate) fn check_entry_limit(held: usize, more: usize) -> Result<(), Refusal>
     requires { held ≤ MOST_ENTRIES }
     ensures { result ≡ entry_limit (held + more) }
@@ -402,7 +402,7 @@ pub(crate) fn check_entry_limit(held: usize, more: usize) -> Result<(), Refusal>
     Ok(())
 }
 
-/// Whether a criterion is held as it is; of a built-in one nothing is asked.
+/// Whether an equal criterion is held; never true of a built-in name.
 pub(crate) fn is_held(table: &CriteriaTable, criterion: &Criterion) -> bool
     ensures { result ≡ is_held table.now criterion.now }
 {
@@ -415,7 +415,7 @@ pub(crate) fn is_held(table: &CriteriaTable, criterion: &Criterion) -> bool
     }
 }
 
-/// Whether the settings of a peer are held as they are.
+/// Whether equal settings of a peer are held.
 pub(crate) fn has_settings(facts: &EntryFacts, settings: &PeerSettings) -> bool
     ensures { result ≡ has_settings facts.now.content.peers settings.now }
 {
@@ -425,7 +425,7 @@ pub(crate) fn has_settings(facts: &EntryFacts, settings: &PeerSettings) -> bool
     }
 }
 
-/// Refuses a name that is unknown.
+/// Refuses an unknown name, if there is one.
 pub(crate) fn check_known(unknown: Option<&Name>) -> Result<(), Refusal>
     ensures { Answers (known (option_copied unknown.entry)) result }
 {
@@ -478,8 +478,8 @@ fn check_window(day: Day, window: Window) -> Result<(), Refusal>
     Ok(())
 }
 
-// Whether a last day comes more than 366 days after a day. Where that many days lead past the last day of
-// the calendar, none does.
+// Whether a last day comes more than 366 days after a day. If that many days lead past the last day of the calendar, no
+// day does.
 fn ends_too_late(day: Day, last: Day) -> bool
     ensures { result ≡ is_lt (int_cmp (day_number day +ℤ pos MOST_WINDOW_DAYS) (day_number last)) }
 {
