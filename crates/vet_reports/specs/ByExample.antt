@@ -1,4 +1,5 @@
--- Reports by example (ours). On three days serde 1.0.1 is demanded, vouched for to be run, and demanded no more.
+-- Reports by example (ours). On three days, in turn, serde 1.0.1 is demanded, vouched for to be run, and no longer
+-- demanded.
 use Rattle.std.specs.Prelude.{ℕ, List, [], ◌∷◌, ◌++◌, Option, Some, None, codes}
 use Rattle.std.specs.FinSet as set
 use Rattle.vet_base.specs.Day.{DayValue}
@@ -83,7 +84,7 @@ deploy_alone = codes "safe-to-deploy" ∷ []
 abbrev pub both_built_in : List Name
 both_built_in = codes "safe-to-deploy" ∷ codes "safe-to-run" ∷ []
 
--- a review in a state; its criteria are told beside it
+-- a review in a state; its criteria are given separately
 abbrev pub review_in : ReviewState → Review
 review_in state = record {
   number = 1;

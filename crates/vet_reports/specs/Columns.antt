@@ -6,11 +6,11 @@ use Rattle.vet_base.specs.Version.{VersionValue, version_text}
 use Rattle.vet_base.specs.Words.{Name, Text}
 use Rattle.vet_demand.specs.declared.pair.Pair.{Pair}
 
--- the spaces that a text wants of so many characters: none where it has as many
+-- the spaces that fill a text up to a width in characters; none if it is that long
 abbrev pub spaces_beside : ℕ → Text → Text
 spaces_beside width text = replicate (width - char_count text) 32
 
--- a text left in a width, and right in it
+-- a text aligned left in a width, and aligned right in it
 unfoldable pub left_in : ℕ → Text → Text
 left_in width text = text ++ spaces_beside width text
 
@@ -30,7 +30,7 @@ line columns = line_with (codes " ") columns
 abbrev pub close_line : List Text → Text
 close_line columns = line_with [] columns
 
--- how a line begins with such columns, where others follow
+-- the beginning of a line that has these columns, if others follow
 abbrev pub begun : List Text → Text
 begun [] = []
 begun (column ∷ rest) = column ++ (codes " " ++ begun rest)

@@ -1,5 +1,5 @@
--- The report of counts (ours): of each class how many pairs stood in it at first, how many came and went since, and how
--- many stand in it now; last the sums.
+-- The report of counts (ours): for each class, how many pairs were in it when the period began, how many recorded moves
+-- arrived and departed, and how many pairs are in it now; last, the sums.
 use Rattle.std.specs.Prelude.{ℕ, List, [], ◌∷◌, ◌++◌, codes}
 use Rattle.std.specs.Fmt.{decimal}
 use Rattle.vet_base.specs.Words.{Text}
@@ -22,7 +22,7 @@ counts_table s = record {
   present = counts_of (standing s);
 }
 
--- a line: a name, and four texts under first, arrived, departed and now
+-- a line: a name, and four texts below first, arrived, departed and now
 unfoldable pub row : Text → Text → Text → Text → Text → Text
 row name first arrived departed now = close_line
     (left_in 12 name ∷ right_in 10 first ∷ right_in 10 arrived ∷ right_in 10 departed ∷ right_in 10 now ∷ [])
@@ -30,7 +30,7 @@ row name first arrived departed now = close_line
 abbrev pub header_row : Text
 header_row = row (codes "class") (codes "first") (codes "arrived") (codes "departed") (codes "now")
 
--- the line of one count of each, as of a class or of all
+-- the line of one count of each kind, for a class or for all
 abbrev pub count_row : Text → (Counts → ℕ) → CountsTable → Text
 count_row name count table = row name (decimal (count table.first)) (decimal (count table.arrived))
     (decimal (count table.departed)) (decimal (count table.present))

@@ -18,12 +18,12 @@ state_word (Assigned member) = codes "assigned"
 state_word (Finished entry) = codes "finished"
 state_word Withdrawn = codes "withdrawn"
 
--- who it is assigned to, or `-`
+-- the member to whom a review is assigned, or `-`
 abbrev pub member_word : ReviewState → Text
 member_word (Assigned member) = member
 member_word _ = codes "-"
 
--- the entry of a finished one, or `-`
+-- the entry of a finished review, or `-`
 abbrev pub entry_word : ReviewState → Text
 entry_word (Finished entry) = decimal entry
 entry_word _ = codes "-"
@@ -33,8 +33,8 @@ abbrev pub state_columns : ReviewState → List Text
 state_columns state =
     left_in 9 (state_word state) ∷ left_in 16 (member_word state) ∷ right_in 8 (entry_word state) ∷ []
 
--- the line of a review for these criteria: its number, the day on which it was opened, what is reviewed, its state, and
--- the criteria
+-- the line of a review for these criteria: its number, the day on which it was opened, the package and version, its
+-- state, and the criteria
 unfoldable pub line_for : List Name → Review → Text
 line_for criteria r =
     line (right_in 8 (decimal r.number) ∷ day_text r.day ∷ (version_columns r.«package» r.version

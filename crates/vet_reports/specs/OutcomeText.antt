@@ -1,4 +1,4 @@
--- What is printed of the outcome of a command (ours).
+-- The line that is printed for the outcome of a command (ours).
 use Rattle.std.specs.Prelude.{ℕ, List, [], ◌∷◌, ◌++◌, Option, Some, None, codes}
 use Rattle.std.specs.Fmt.{decimal}
 use Rattle.vet_base.specs.Words.{Text}
@@ -6,12 +6,13 @@ use Rattle.vet_register.specs.declared.command.Outcome.{Outcome}
 use Rattle.vet_register.specs.declared.command.Outcome.TheVariants.{Done, Already}
 use Rattle.vet_reports.specs.Columns.{line}
 
--- the words that tell a number, where there is one
+-- the words for a number, if there is one
 abbrev pub number_words : Option ℕ → List Text
 number_words None = []
 number_words (Some number) = codes "number" ∷ decimal number ∷ []
 
--- the words of an outcome: the step, the number and how many pairs moved; or the number under which it was held already
+-- the words of an outcome: the step, the number and how many pairs moved; or the number under which an equal entry is
+-- already held
 abbrev pub outcome_words : Outcome → List Text
 outcome_words (Done step number moves) =
     codes "done" ∷ decimal step ∷ (number_words number ++ (codes "moves" ∷ decimal moves ∷ []))

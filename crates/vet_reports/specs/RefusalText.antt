@@ -1,4 +1,4 @@
--- What is printed of a refusal (ours).
+-- The line that is printed for a refusal (ours).
 use Rattle.std.specs.Prelude.{[], ◌++◌, codes}
 use Rattle.std.specs.Fmt.{decimal}
 use Rattle.vet_base.specs.Refusal.{refusal_number, refusal_name, limit_word}

@@ -25,7 +25,7 @@ report_named word =
     else (if bytes_eq word (codes "desk") then Some Desk
     else (if bytes_eq word (codes "lapses") then Some Lapses else None)))))
 
--- how its text is laid out
+-- the layout of its text
 abbrev pub layout_of : Report → Layout
 layout_of StandingCsv = Csv
 layout_of _ = Lines

@@ -16,7 +16,7 @@ record_line fields = row_text default_writer fields
 abbrev pub header_fields : List Text
 header_fields = codes "package" ∷ codes "version" ∷ codes "criterion" ∷ codes "class" ∷ []
 
--- the fields of a pair that stands in a class
+-- the fields of a pair in a class
 abbrev pub stand_fields : Stand → List Text
 stand_fields s = s.pair.«package» ∷ version_text s.pair.version ∷ s.pair.criterion ∷ class_word s.class ∷ []
 

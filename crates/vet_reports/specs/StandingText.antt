@@ -21,7 +21,7 @@ abbrev pub is_class_asked : Option Class → Class → Bool
 is_class_asked None class = true
 is_class_asked (Some asked) class = same_class asked class
 
--- a pair is shown where its package and its class are those asked for
+-- a pair is shown if its package and its class are those asked for
 abbrev pub is_shown : Filter → Stand → Bool
 is_shown asked s = is_package_asked asked.«package» s.pair.«package» && is_class_asked asked.class s.class
 
@@ -29,7 +29,7 @@ is_shown asked s = is_package_asked asked.«package» s.pair.«package» && is_c
 unfoldable pub stand_line : Stand → Text
 stand_line s = line (pair_columns s.pair ++ class_word s.class ∷ [])
 
--- the lines of those of some pairs that are shown
+-- the lines of the pairs that are shown
 abbrev pub stands_text : Filter → List Stand → Text
 stands_text asked stands = flat_map stand_line (filter (is_shown asked) stands)
 

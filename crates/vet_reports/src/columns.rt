@@ -9,28 +9,28 @@ use vet_base::name::{Name, PackageName};
 use vet_base::version::VetVersion;
 use vet_demand::pair::Pair;
 
-/// Adds a text, left in a width.
+/// Adds a text, aligned left in a width.
 pub(crate) fn push_left(text: &mut String, width: usize, column: &str) -> Result<(), AllocError>
     ensures { OnOk result (string_bytes text.new ≡ string_bytes text.old ++ left_in width column.now) }
 {
     write!(text, "{column:<width$}")
 }
 
-/// Adds a text, right in a width.
+/// Adds a text, aligned right in a width.
 pub(crate) fn push_right(text: &mut String, width: usize, column: &str) -> Result<(), AllocError>
     ensures { OnOk result (string_bytes text.new ≡ string_bytes text.old ++ right_in width column.now) }
 {
     write!(text, "{column:>width$}")
 }
 
-/// Adds a number, right in a width.
+/// Adds a number, aligned right in a width.
 pub(crate) fn push_number(text: &mut String, width: usize, number: u64) -> Result<(), AllocError>
     ensures { OnOk result (string_bytes text.new ≡ string_bytes text.old ++ right_in width (decimal number)) }
 {
     write!(text, "{number:>width$}")
 }
 
-/// Adds the columns of a version of a package, with a space behind each.
+/// Adds the columns of a version of a package, with a space after each.
 pub(crate) fn push_version(
     alloc: Global,
     text: &mut String,
@@ -47,7 +47,7 @@ pub(crate) fn push_version(
     text.push(' ')
 }
 
-/// Adds the columns of a pair, with a space behind each.
+/// Adds the columns of a pair, with a space after each.
 pub(crate) fn push_pair(alloc: Global, text: &mut String, pair: &Pair) -> Result<(), AllocError>
     ensures { OnOk result (string_bytes text.new ≡ string_bytes text.old ++ begun (pair_columns pair.now)) }
 {

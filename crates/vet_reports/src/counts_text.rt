@@ -15,7 +15,8 @@ use vet_graph::keeper::Keeper;
 use vet_graph::standing::Counts;
 use vet_register::register::Register;
 
-/// How many pairs stood in each class at first, came to it and went from it since, and stand in it now.
+/// Counts for each class: pairs that were in it when the period began, recorded moves that arrived at it, recorded
+/// moves that departed from it, and pairs that are in it now.
 #[derive(Clone, Copy)]
 pub struct CountsTable {
     pub first: Counts,
@@ -24,8 +25,8 @@ pub struct CountsTable {
     pub present: Counts,
 }
 
-/// The report of counts: a header, a line for each class in their order, and a line of sums. Names stand left in 12
-/// characters, numbers right in 10. Looks at no recorded move. Refused: `NoMemory`.
+/// The report of counts: a header, a line for each class in their order, and a line of sums. Names are aligned left in
+/// 12 characters, numbers right in 10. Looks at no recorded move. Refused: `NoMemory`.
 pub fn counts_text<K: Keeper>(alloc: Global, register: &Register<K>) -> Result<String, Refusal>
     ensures text { IfOk result (λ text. string_bytes text ≡ counts_text register.now.state) }
     ensures memory { IfErr result (λ e. e ≡ Refusal.NoMemory) }
@@ -96,7 +97,7 @@ fn push_sums(text: &mut String, table: &CountsTable) -> Result<(), AllocError>
     text.push('\n')
 }
 
-// All five counts together.
+// The sum of all five counts.
 fn total(counts: Counts) -> u128
     ensures { result ≡ total_of counts }
 {
@@ -107,7 +108,7 @@ fn total(counts: Counts) -> u128
         + u128::from(counts.unvetted)
 }
 
-// Adds a sum, right in 10 characters.
+// Adds a sum, aligned right in 10 characters.
 fn push_sum(text: &mut String, sum: u128) -> Result<(), AllocError>
     ensures { OnOk result (string_bytes text.new ≡ string_bytes text.old ++ right_in 10 (decimal sum)) }
 {

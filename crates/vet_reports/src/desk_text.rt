@@ -13,10 +13,10 @@ use vet_desk::review::{Review, ReviewState};
 use vet_graph::keeper::Keeper;
 use vet_register::register::Register;
 
-/// The report of the desk: a line for each review, by number: the number right in 8 characters, the day on which it was
-/// opened, package and version as in the standing, the state left in 9, the member of an assigned one or `-` left in
-/// 16, the entry of a finished one or `-` right in 8, and the criteria with commas between them. Costs a look at each.
-/// Refused: `NoMemory`.
+/// The report of the desk: a line for each review, by number. A line has the number, aligned right in 8 characters, the
+/// day on which the review was opened, package and version as in the standing, the state, aligned left in 9, the member
+/// of an assigned review or `-`, aligned left in 16, the entry of a finished one or `-`, aligned right in 8, and the
+/// criteria with commas between them. Costs a look at each review. Refused: `NoMemory`.
 pub fn desk_text<K: Keeper>(alloc: Global, register: &Register<K>) -> Result<String, Refusal>
     ensures text { IfOk result (λ text. string_bytes text ≡ desk_text register.now.state) }
     ensures memory { IfErr result (λ e. e ≡ Refusal.NoMemory) }
@@ -49,7 +49,7 @@ fn push_review(alloc: Global, text: &mut String, review: &Review) -> Result<(), 
     text.push('\n')
 }
 
-// Adds the columns of a state, with a space behind each.
+// Adds the columns of a state, with a space after each.
 fn push_state(text: &mut String, state: &ReviewState) -> Result<(), AllocError>
     ensures { OnOk result (string_bytes text.new ≡ string_bytes text.old ++ begun (state_columns state.now)) }
 {
@@ -72,7 +72,7 @@ fn state_word(state: &ReviewState) -> &'static str
     }
 }
 
-// Who it is assigned to, or `-`.
+// The member to whom a review is assigned, or `-`.
 fn member_word(state: &ReviewState) -> &str
     ensures { result.now ≡ member_word state.now }
 {
@@ -82,7 +82,7 @@ fn member_word(state: &ReviewState) -> &str
     }
 }
 
-// Adds the entry of a finished one, or `-`.
+// Adds the entry of a finished review, or `-`.
 fn push_entry(text: &mut String, state: &ReviewState) -> Result<(), AllocError>
     ensures { OnOk result (string_bytes text.new ≡ string_bytes text.old ++ right_in 8 (entry_word state.now)) }
 {

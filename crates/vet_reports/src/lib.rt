@@ -3,11 +3,11 @@
 //! **Each report is a function of the register's state, byte for byte, and the line of an outcome a function of the
 //! outcome.**
 //!
-//! Scope of this crate: the texts alone. Where they go, and how they are asked for, is up to the crates above.
-//! Definitions are in `specs/`, built of columns: `left_in` and `right_in` lay one out, and `line` joins them.
+//! Scope of this crate: only the texts. The crates above decide where they go, and how they are asked for. Definitions
+//! are in `specs/`, made from columns: `left_in` and `right_in` align one in a width, and `line` joins them.
 //!
-//! For example, what came of the first command that adds an entry, which moved two pairs, is the line `done 1 number 1
-//! moves 2`.
+//! For example, the outcome of the first command, if it adds an entry and moves two pairs, is the line
+//! `done 1 number 1 moves 2`.
 #![tactic(auto)]
 
 mod columns;

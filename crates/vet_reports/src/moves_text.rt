@@ -14,9 +14,9 @@ use vet_graph::moves::Move;
 use vet_register::moves::RecordedMove;
 use vet_register::register::Register;
 
-/// The report of moves: a line for each recorded move, in their order: the step right in 8 characters, the day, the
-/// pair as in the standing, the class before left in 11, and the class after; `none` where the pair isn't demanded.
-/// Costs a look at each. Refused: `NoMemory`.
+/// The report of moves: a line for each recorded move, in their order. A line has the step, aligned right in 8
+/// characters, the day, the pair as in the standing, the class before, aligned left in 11, and the class after; `none`
+/// if the pair isn't demanded. Costs a look at each move. Refused: `NoMemory`.
 pub fn moves_text<K: Keeper>(alloc: Global, register: &Register<K>) -> Result<String, Refusal>
     ensures text { IfOk result (λ text. string_bytes text ≡ moves_text register.now.state) }
     ensures memory { IfErr result (λ e. e ≡ Refusal.NoMemory) }
@@ -57,7 +57,7 @@ fn push_change(alloc: Global, text: &mut String, change: &Move) -> Result<(), Al
     text.push('\n')
 }
 
-// The word of a class, or of none.
+// The word of a class, or `none`.
 fn class_or_none(class: Option<Class>) -> &'static str
     ensures { result.now ≡ class_or_none class }
 {

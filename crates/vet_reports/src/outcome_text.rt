@@ -12,7 +12,7 @@ use std::alloc::Global;
 use vet_base::refusal::Refusal;
 use vet_register::command::Outcome;
 
-/// The most bytes of the line of an outcome: its words, and three numbers of at most 20 digits.
+/// The greatest number of bytes in the line of an outcome: its words, and three numbers of at most 20 digits.
 pub const MOST_OUTCOME_BYTES: usize = 81;
 
 /// The line of an outcome: `done STEP moves M`, `done STEP number N moves M`, `already` or `already N`. Refused:

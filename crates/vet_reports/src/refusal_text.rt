@@ -1,12 +1,12 @@
-//! What is printed of a refusal.
+//! The line of a refusal.
 ghost use Rattle.std.specs.Prelude.{◌≡◌, IfOk, codes, string_bytes};
 ghost use Rattle.vet_reports.specs.RefusalText.{refusal_details, refusal_line};
 
 use std::alloc::{AllocError, Global};
 use vet_base::refusal::{Limit, Refusal};
 
-/// The line of a refusal: `refused`, its number, its name and its details, with one space between, and a
-/// line feed.
+/// The line of a refusal: `refused`, its number, its name and its details, with one space between, and a line feed.
+/// Fails only if memory runs out.
 pub fn refusal_text(alloc: Global, refusal: &Refusal) -> Result<String, AllocError>
     ensures { IfOk result (λ text. string_bytes text ≡ refusal_line refusal.now) }
 {
@@ -33,7 +33,7 @@ fn details(alloc: Global, refusal: &Refusal) -> Result<String, AllocError>
     }
 }
 
-/// The lines by example: a law, since not every refusal can be met in a run of this program.
+/// The lines of refusals by example. They are a law, since not every refusal can occur in a run of this program.
 pub fn lines_by_example()
     ensures { (refusal_line Refusal.BadName ≡ codes "refused 1 BadName\n")
         × (refusal_line (Refusal.UnknownCriterion (codes "nope")) ≡ codes "refused 6 UnknownCriterion nope\n")

@@ -13,10 +13,10 @@ use vet_base::refusal::Refusal;
 use vet_graph::keeper::Keeper;
 use vet_register::register::Register;
 
-/// The words for the reports, as an error lists them.
+/// The words of the reports, as an error lists them.
 pub const REPORT_WORDS: &str = "counts, standing, standing-csv, moves, desk, lapses";
 
-/// A report of a register. A further one is a row here and in each function below.
+/// A report of a register. A new one needs a row here and in each function below.
 #[derive(Clone, Copy)]
 pub enum Report {
     Counts,
@@ -27,7 +27,7 @@ pub enum Report {
     Lapses,
 }
 
-/// How the text of a report is laid out.
+/// The layout of a report's text.
 #[derive(Clone, Copy)]
 pub enum Layout {
     /// Lines for people.
@@ -58,7 +58,7 @@ impl Report {
         }
     }
 
-    /// How its text is laid out.
+    /// The layout of its text.
     pub fn layout(self) -> Layout
         ensures { result ≡ layout_of self }
     {

@@ -16,8 +16,8 @@ use vet_graph::standing::Stand;
 use vet_register::register::Register;
 
 /// The standing as CSV (RFC 4180): a header, then a record for each demanded pair in order: package, version, criterion
-/// and class. Lines end with a line feed. A field with a comma or a quote, which only a criterion's name can have,
-/// stands between quotes. Costs one walk over the demanded pairs. Refused: `NoMemory`.
+/// and class. Lines end with a line feed. A field with a comma or a quote, which only a criterion's name can have, is
+/// written between quotes, with each quote in it doubled. Costs one walk over the demanded pairs. Refused: `NoMemory`.
 pub fn standing_csv<K: Keeper>(alloc: Global, register: &Register<K>) -> Result<String, Refusal>
     ensures text { IfOk result (λ text. string_bytes text ≡ standing_csv register.now.state) }
     ensures memory { IfErr result (λ e. e ≡ Refusal.NoMemory) }
@@ -78,7 +78,7 @@ fn push_record(
     push_field(text, fourth, "\n")
 }
 
-// Adds a field, between quotes where it has a comma or a quote, and what ends it.
+// Adds a field, between quotes if it has a comma or a quote, and the text that ends it.
 fn push_field(text: &mut String, field: &str, end: &str) -> Result<(), AllocError>
     requires { list_all is_ascii_graphic field.now ≡ true }
     ensures { OnOk result (string_bytes text.new
@@ -102,7 +102,7 @@ fn push_quoted(text: &mut String, field: &str) -> Result<(), AllocError>
     text.push('"')
 }
 
-// Adds what stands between quotes: each quote twice.
+// Adds the text between the quotes, with each quote in it doubled.
 fn push_escaped(text: &mut String, field: &[u8]) -> Result<(), AllocError>
     requires { list_all is_ascii_graphic field.now ≡ true }
     ensures { OnOk result (string_bytes text.new ≡ string_bytes text.old ++ escaped default_writer field.now) }
@@ -124,7 +124,7 @@ fn push_escaped_byte(text: &mut String, byte: u8) -> Result<(), AllocError>
     text.push(char::from(byte))
 }
 
-// Whether a field calls for quotes.
+// Whether a field needs quotes.
 fn needs_quotes(field: &[u8]) -> bool
     ensures { result ≡ needs_quotes default_writer field.now }
 {

@@ -14,7 +14,7 @@ use vet_graph::keeper::Keeper;
 use vet_graph::standing::Stand;
 use vet_register::register::Register;
 
-/// Which pairs are asked for: those of a package, those of a class, or, if neither is said, all.
+/// The pairs that are asked for: those of a package, those in a class, those of both, or all if neither is given.
 pub struct Filter {
     pub package: Option<PackageName>,
     pub class: Option<Class>,
@@ -30,7 +30,7 @@ impl Drop for Filter {
 }
 
 impl Filter {
-    // Whether a pair that stands in a class is asked for.
+    // Whether a pair in a class is asked for.
     fn shows(&self, pair: &Pair, class: Class) -> bool
         ensures { result ≡ is_shown self.now (record { pair = pair.now; class = class }) }
     {
@@ -56,9 +56,9 @@ impl Filter {
     }
 }
 
-/// The report of the standing: a line for each demanded pair that the filter asks for, in order: the package left in 24
-/// characters, the version and the criterion left in 20, and the class. Costs one walk over the demanded pairs.
-/// Refused: `NoMemory`.
+/// The report of the standing: a line for each demanded pair that the filter asks for, in order. A line has the
+/// package, aligned left in 24 characters, the version and the criterion, each aligned left in 20, and the class. Costs
+/// one walk over the demanded pairs. Refused: `NoMemory`.
 pub fn standing_text<K: Keeper>(
     alloc: Global,
     register: &Register<K>,
