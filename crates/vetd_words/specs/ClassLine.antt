@@ -1,4 +1,4 @@
--- What `class` prints of an audits file (ours).
+-- The line that `class` prints for an audits file (ours).
 use Rattle.std.specs.Prelude.{◌++◌, Ok, codes}
 use Rattle.vet_base.specs.Gives.{◌>>=◌}
 use Rattle.vet_base.specs.Words.{Text}

@@ -1,4 +1,4 @@
--- What is counted of a file, and the line that is printed of it (ours).
+-- The counts of a file, and the line that is printed about it (ours).
 use Rattle.std.specs.Prelude.{ℕ, List, ◌++◌, codes, length}
 use Rattle.std.specs.Fmt.{decimal}
 use Rattle.std.specs.List.{sum_by}
@@ -46,7 +46,7 @@ counts_of_imports content = record {
   peers = length content.peers;
 }
 
--- what is printed of what a file holds, and of what was passed over in it
+-- the texts of the things that a file holds, and of those that were ignored in it
 abbrev pub entries_text : FileCounts → Text
 entries_text counts = codes "criteria " ++ (decimal counts.criteria ++ (codes " entries " ++ (decimal counts.entries
     ++ (codes " publishers " ++ decimal counts.publishers))))

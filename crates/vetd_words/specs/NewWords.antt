@@ -1,4 +1,4 @@
--- What the words of a new command ask for (ours): a path, and how many moves the register may record.
+-- The words of a new command (ours): a path, and how many moves the register may record.
 use Rattle.std.specs.Prelude.{◌≡◌, ◌≤◌, ℕ, Bool, [], ◌∷◌, Some, codes, true, false}
 use Rattle.std.specs.Str.Parse.{IsNumeral, digits_value, without_leading_plus}
 use Rattle.clap.specs.Walk.{Rule, Text}
@@ -11,7 +11,7 @@ use Rattle.vet_base.specs.declared.limits.TheConstants.{MOST_MOVES}
 abbrev pub option_rule : Bool → Text → Rule
 option_rule required name = record (new_rule name) { long = Some name; value_names = 1; required = required }
 
--- `--moves-limit N`, which is 1,000,000 where it isn't given
+-- `--moves-limit N`, which is 1,000,000 if it isn't given
 abbrev pub limit_rule : Rule
 limit_rule = record (option_rule false (codes "moves-limit")) {
   parser = Some (Unsigned 1 1000000);

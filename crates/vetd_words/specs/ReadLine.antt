@@ -1,4 +1,4 @@
--- What `read` prints of a file (ours).
+-- The line that `read` prints about a file (ours).
 use Rattle.std.specs.Prelude.{Ok}
 use Rattle.vet_base.specs.Document.{length_told}
 use Rattle.vet_base.specs.Gives.{◌>>=◌}

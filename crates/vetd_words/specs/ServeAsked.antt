@@ -1,4 +1,4 @@
--- What a serve command asks for (ours).
+-- The values of a serve command (ours).
 use Rattle.std.specs.Prelude.{◌≡◌, ℕ, List, Option, Some, codes, option_map}
 use Rattle.clap.specs.Walk.{Row, Text, first_of}
 use Rattle.vetd_words.specs.ServeWords.{IsNumberUpTo}
@@ -6,14 +6,14 @@ use Rattle.vetd_words.specs.Words.{rows_given}
 use Rattle.vetd_words.specs.declared.serve_words.ServeWords.{ServeWords}
 use Rattle.vetd_words.specs.declared.serve_words.TheConstants.{LAST_PORT, MOST_CONNECTIONS}
 
--- a port, how many connections are waited for, and the path and the text of a day where these are told
+-- a port, how many connections are waited for, and the path and the text of a day, if these are given
 pub record ServeAsked : Type 0 where
   pub port : ℕ
   pub connections : ℕ
   pub path : Option Text
   pub day : Option Text
 
--- what the code holds of them
+-- these, as the code holds them
 abbrev pub serve_asked : ServeWords → ServeAsked
 serve_asked words = record {
   port = words.port;
@@ -30,7 +30,7 @@ pub record IsServeAskedBy (rows : List Row) (asked : ServeAsked) : Type 0 where
   pub path : first_of (codes "db") rows ≡ asked.path
   pub day : first_of (codes "day") rows ≡ asked.day
 
--- the words of a serve command ask for them
+-- the words of a serve command give them
 pub record AsksServe (words : List Text) (asked : ServeAsked) : Type 0 where
   pub rows : List Row
   pub given : rows_given (codes "serve") words ≡ Some rows

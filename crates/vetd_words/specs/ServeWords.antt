@@ -1,4 +1,4 @@
--- What the words of a serve command ask for (ours): a port, how many connections are waited for, a path and a day.
+-- The words of a serve command (ours): a port, how many connections are waited for, a path and a day.
 use Rattle.std.specs.Prelude.{◌≡◌, ◌≤◌, ℕ, Some, codes, true, false}
 use Rattle.std.specs.Str.Parse.{IsNumeral, digits_value, without_leading_plus}
 use Rattle.clap.specs.Walk.{Rule, Text}

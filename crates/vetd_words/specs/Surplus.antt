@@ -1,4 +1,4 @@
--- The word too many after a command that reads a file on standard input (ours).
+-- The first extra word after a command that reads a file on standard input (ours).
 use Rattle.std.specs.Prelude.{◌==◌, Bool, ℕ, List, [], ◌∷◌, Option, Some, None, codes, if◌then◌else◌, false}
 use Rattle.std.specs.Prelude.{option_and_then}
 use Rattle.std.specs.List.{list_any, slice_get}
@@ -10,7 +10,7 @@ abbrev pub is_flag : Text → Bool
 is_flag [] = false
 is_flag (code ∷ rest) = code == 45
 
--- how many words a command takes that reads a file on standard input, its name among them
+-- the number of words, including its name, that a command takes if it reads a file on standard input
 abbrev pub words_taken : Text → Option ℕ
 words_taken name =
     if bytes_eq name (codes "class") then Some 4 else (if bytes_eq name (codes "read") then Some 2 else None)

@@ -24,12 +24,12 @@ use Rattle.clap.specs.declared.builder.command.Command.TheViews.{out-Command}
 abbrev pub word_rule : Text → Rule
 word_rule id = record (new_rule id) { required = true }
 
--- the argument has this rule, for its own command alone
+-- the argument has this rule, only for its own command
 pub record IsRule (rule : Rule) (arg : Arg) : Type 0 where
   pub is : rule_of arg ≡ rule
   pub own : arg.global ≡ false
 
--- what a parse reads of the command, which has no global argument
+-- a parse reads this of the command, which has no global argument
 pub record IsApp (app : App) (command : Command) : Type 0 where
   pub is : app_of command ≡ app
   pub own : (out-Command command).has_globals ≡ false
@@ -69,7 +69,7 @@ with_kind app = with_rule (with_rule app (option_rule true (codes "db"))) (word_
 abbrev pub view_app : Text → App
 view_app name = with_kind (simple.new_app name)
 
--- with those that make a register or show one
+-- with the one that makes a register
 abbrev pub made_app : App
 made_app = with_subcommand file_app new_app.top
 
@@ -77,7 +77,7 @@ made_app = with_subcommand file_app new_app.top
 abbrev pub changed_app : App
 changed_app = with_subcommand made_app apply_app.top
 
--- with the one that reports of a register
+-- with the one that reports on a register
 abbrev pub reported_app : App
 reported_app = with_subcommand changed_app (view_app (codes "report")).top
 
@@ -89,16 +89,16 @@ exported_app = with_subcommand reported_app (view_app (codes "export")).top
 abbrev pub top_app : App
 top_app = with_subcommand exported_app serve_app.top
 
--- the matches of a subcommand, where it is the one of this name
+-- the matches of a subcommand, if it is the one of this name
 abbrev pub rows_if_named : Text → Option (Text × List Row) → Option (List Row)
 rows_if_named name subcommand = option_and_then (λ s. if bytes_eq s.0 name then Some s.1 else None) subcommand
 
--- nothing, where there is a fault
+-- nothing, if there is a fault
 abbrev pub unless_fault : Kinds → Option (List Row) → Option (List Row)
 unless_fault [] rows = rows
 unless_fault (k ∷ ks) rows = None
 
--- the matches that clap gives the subcommand of a name, where it takes the words
+-- the matches that clap gives the subcommand of a name, if it takes the words
 unfoldable pub rows_given : Text → List Text → Option (List Row)
 rows_given name words = unless_fault (fault_of top_app words) (rows_if_named name (subcommand_of top_app words))
 
@@ -114,28 +114,28 @@ pub record AskedWords : Type 0 where
   pub version : Text
   pub criterion : Text
 
--- what the code holds of them
+-- these, as the code holds them
 abbrev pub asked_of : ClassWords → AskedWords
 asked_of w = record { package_name = w.package_name.now; version = w.version.now; criterion = w.criterion.now }
 
--- the three words, where each was given
+-- the three words, if each was given
 abbrev pub words_from : List Row → Option AskedWords
 words_from rows = option_and_then (λ p. option_and_then (λ v.
     option_map (λ c. record { package_name = p; version = v; criterion = c })
     (first_of (codes "CRITERION") rows)) (first_of (codes "VERSION") rows)) (first_of (codes "PACKAGE") rows)
 
--- what the words of a class command ask for
+-- the three words of a class command, if the words are one
 abbrev pub class_given : List Text → Option AskedWords
 class_given words = option_and_then words_from (rows_given (codes "class") words)
 
--- whether words begin with one
+-- whether words begin with this one
 abbrev pub begins_with : Text → List Text → Bool
 begins_with name [] = false
 begins_with name (word ∷ rest) = bytes_eq word name
 
 -- ---- `read`
 
--- the kind that the word names, where it was given and names one
+-- the kind that the word names, if it was given and names one
 abbrev pub kind_from : List Row → Option RegisterFile
 kind_from rows = option_and_then file_of_word (first_of (codes "KIND") rows)
 
@@ -145,7 +145,7 @@ read_given words = option_and_then kind_from (rows_given (codes "read") words)
 
 -- ---- why words are explained
 
--- the kinds that clap's error of the words may have, if it refuses them
+-- the kinds that clap's error for the words may have, if it refuses them
 unfoldable pub faults_of : List Text → Kinds
 faults_of words = fault_of top_app words
 
@@ -153,7 +153,7 @@ faults_of words = fault_of top_app words
 abbrev pub IsShown : ErrorKind → Type 0
 IsShown kind = (kind ≡ DisplayHelp) ⊎ (kind ≡ DisplayVersion)
 
--- one of clap's errors; or, where it has none, one of the program's own, which shows nothing
+-- one of clap's errors or, if it has none, one of the program's own, which shows nothing
 abbrev pub IsOneOf : ErrorKind → Kinds → Type 0
 IsOneOf kind [] = IsShown kind → ⊥
 IsOneOf kind (first ∷ rest) = IsAmong kind (first ∷ rest)
@@ -162,11 +162,11 @@ IsOneOf kind (first ∷ rest) = IsAmong kind (first ∷ rest)
 abbrev pub IsErrorOf : List Text → ErrorKind → Type 0
 IsErrorOf words kind = (kind ≡ OutOfMemory) ⊎ IsOneOf kind (faults_of words)
 
--- what clap finds first in the words is a call for help or for the version
+-- the first thing that clap finds in the words is a request for help or for the version
 pub record AskForHelp (words : List Text) : Type 0 where
   pub some : faults_of words ≢ []
   pub shown : (kind : ErrorKind) → IsAmong kind (faults_of words) → IsShown kind
 
--- it is none
+-- it is not such a request
 abbrev pub AskForNoHelp : List Text → Type 0
 AskForNoHelp words = (kind : ErrorKind) → IsAmong kind (faults_of words) → IsShown kind → ⊥

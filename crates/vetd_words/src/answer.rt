@@ -1,4 +1,4 @@
-//! What a run answers, and its status.
+//! The answer of a run, and its status.
 ghost use Rattle.std.specs.Prelude.{◌≡◌, ◌≢◌, ℕ, List, IfOk, IfErr, string_bytes};
 ghost use Rattle.std.specs.Io.KnownBytes.{Appends, Keeps};
 ghost use Rattle.clap.specs.Words.{kind_of};
@@ -23,7 +23,8 @@ pub const REFUSED: u8 = 1;
 /// The status of a run that explained its command line.
 pub const EXPLAINED: u8 = 2;
 
-/// Writes clap's text: help and the version, which were asked for, to the output, and what is wrong to the errors.
+/// Writes clap's text: help and the version, which were asked for, to the output, and a fault of the words to the
+/// errors. Fails with `NoMemory`, and then nothing was written, or with `Output`, and then a prefix of the text was.
 pub fn explain<W: Write, E: Write>(
     alloc: Global,
     error: &Error,
@@ -60,7 +61,8 @@ pub fn explain<W: Write, E: Write>(
     Ok(EXPLAINED)
 }
 
-/// Writes the text to the output, or the refusal to the errors. Running out of memory is a fault.
+/// Writes the text to the output, or the refusal to the errors. Fails with `NoMemory` if that is the refusal or if
+/// memory runs out for its line, and then nothing was written, or with `Output`, and then a prefix of the answer was.
 pub fn report<W: Write, E: Write>(
     alloc: Global,
     told: &Result<String, Refusal>,

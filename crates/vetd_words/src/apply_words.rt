@@ -11,8 +11,8 @@ use clap::{ArgMatches, Error};
 use std::alloc::Global;
 use std::convert::AsStr;
 
-/// What an apply command asks for: the database file at a path, the text of a day, and who gives the command, if that
-/// is said.
+/// An apply command: the path of a database file, the text of a day, and the member who gives the command, if one is
+/// given.
 #[derive(Clone, Copy)]
 pub struct ApplyWords<'a> {
     pub path: &'a str,
@@ -20,8 +20,8 @@ pub struct ApplyWords<'a> {
     pub member: Option<&'a str>,
 }
 
-/// What the words of an apply command ask for, which come without the program's own name. Refused: clap's error of
-/// words that are no command line or ask for help, one of words that are another command, and `OutOfMemory`.
+/// Parses the words of an apply command, which come without the program's own name. Refused: clap's error for words
+/// that are not a command line or ask for help, an error for words that are another command, and `OutOfMemory`.
 pub fn apply_words<'a, S: AsStr>(alloc: Global, words: &'a [S]) -> Result<ApplyWords<'a>, Error>
     ensures found { IfOk result (λ asked. apply_given (map S.text words.entry.now) ≡ Some (apply_asked asked)) }
     ensures refused { IfErr result (λ error. kind_of error ≢ ErrorKind.OutOfMemory
@@ -40,7 +40,7 @@ pub fn apply_words<'a, S: AsStr>(alloc: Global, words: &'a [S]) -> Result<ApplyW
     }
 }
 
-/// What an apply command asks for, where the words are one.
+/// The apply command, if the words are one.
 fn asked_by<'a>(matches: &ArgMatches<'a>) -> Option<ApplyWords<'a>>
     ensures { option_map apply_asked result
         ≡ option_and_then apply_from (rows_if_named (codes "apply") (subcommand_rows_of matches.now)) }
@@ -48,7 +48,7 @@ fn asked_by<'a>(matches: &ArgMatches<'a>) -> Option<ApplyWords<'a>>
     words_of(matches_if_named(matches, "apply")?)
 }
 
-/// The values of the options of an apply command.
+/// The values of the options of an apply command, if the required ones are given.
 fn words_of<'a>(subcommand: &ArgMatches<'a>) -> Option<ApplyWords<'a>>
     ensures { option_map apply_asked result ≡ apply_from (rows_of (found_of subcommand.now)) }
 {

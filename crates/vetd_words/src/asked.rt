@@ -1,4 +1,4 @@
-//! What the words of a command line ask for.
+//! Queries about a file, as the words of a command line ask for them.
 ghost use Rattle.std.specs.Prelude.{◌≡◌, ◌≢◌, [], IfOk, IfErr, map, string_bytes};
 ghost use Rattle.clap.specs.Words.{kind_of};
 ghost use Rattle.vet_base.specs.Gives.{Gives};
@@ -15,7 +15,7 @@ use std::convert::AsStr;
 use vet_base::refusal::Refusal;
 use vet_documents::register_file::RegisterFile;
 
-/// What a command asks for. A further command is a row here, a row in `line`, and the function that makes its line.
+/// A query about a file. A new one needs a row here, a row in `line`, and the function that makes its line.
 #[derive(Clone, Copy)]
 pub enum FileQuery<'a> {
     Class(ClassWords<'a>),
@@ -23,7 +23,7 @@ pub enum FileQuery<'a> {
 }
 
 impl FileQuery<'_> {
-    /// The line about a file.
+    /// The line that answers the query. Refused: everything that `class_line` or `read_line` refuses.
     pub fn line(self, alloc: Global, file: &[u8]) -> Result<String, Refusal>
         ensures { Gives string_bytes (line_told self.entry file.now) result }
     {
@@ -34,8 +34,8 @@ impl FileQuery<'_> {
     }
 }
 
-/// A command of the program, as which the words of a whole command line are taken. A further command is a row
-/// here, and a row in `asked`.
+/// A command of the program that the words of a whole command line are to be. A new one needs a row here, and a row in
+/// `asked`.
 #[derive(Clone, Copy)]
 pub enum CommandKind {
     Class,
@@ -43,7 +43,7 @@ pub enum CommandKind {
 }
 
 impl CommandKind {
-    /// What words ask for that are to be this command. Refused as `class_words` and `read_words` refuse them.
+    /// Parses words that are to be this command. Refused: everything that `class_words` or `read_words` refuses.
     pub fn asked<'a, S: AsStr>(self, alloc: Global, words: &'a [S]) -> Result<FileQuery<'a>, Error>
         ensures found { IfOk result (λ asked.
             asked_by self (map S.text words.entry.now) ≡ Some (line_told asked)) }
@@ -59,7 +59,7 @@ impl CommandKind {
     }
 }
 
-/// What the words of a class command ask for. Refused as `class_words` refuses them.
+/// Parses the words of a class command. Refused: everything that `class_words` refuses.
 fn asked_class<'a, S: AsStr>(alloc: Global, words: &'a [S]) -> Result<FileQuery<'a>, Error>
     ensures found { IfOk result (λ asked.
         class_asked (map S.text words.entry.now) ≡ Some (line_told asked)) }
@@ -71,7 +71,7 @@ fn asked_class<'a, S: AsStr>(alloc: Global, words: &'a [S]) -> Result<FileQuery<
     Ok(FileQuery::Class(class_words(alloc, words)?))
 }
 
-/// What the words of a read command ask for. Refused as `read_words` refuses them.
+/// Parses the words of a read command. Refused: everything that `read_words` refuses.
 fn asked_read<S: AsStr>(alloc: Global, words: &[S]) -> Result<FileQuery<'static>, Error>
     ensures found { IfOk result (λ asked. read_asked (map S.text words.now) ≡ Some (line_told asked)) }
     ensures refused { IfErr result (λ error. kind_of error ≢ ErrorKind.OutOfMemory

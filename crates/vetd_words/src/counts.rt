@@ -1,4 +1,4 @@
-//! What is counted of a file.
+//! The counts of a file.
 ghost use Rattle.std.specs.Prelude.{◌≡◌, ◌+◌, IfOk, string_bytes};
 ghost use Rattle.vet_entries.specs.PublisherRecords.{records_total};
 ghost use Rattle.vetd_words.specs.Counts.{counts_line, counts_of_audits, counts_of_config, counts_of_imports};
@@ -11,7 +11,7 @@ use vet_files::config_file::ConfigContent;
 use vet_files::imports_file::{ImportedPeer, ImportsContent};
 use vet_files::notices::Notices;
 
-/// How many things a file holds, those of all peers together. Exemptions are entries.
+/// The number of things that a file holds, those of all peers together. Exemptions are entries.
 #[derive(Clone, Copy)]
 pub struct FileCounts {
     /// Criteria that are defined. No built-in one is among them.
@@ -48,7 +48,7 @@ impl FileCounts {
         }
     }
 
-    /// Refused where a count would pass 2^64 - 1, for which no memory holds the file.
+    /// The counts of an imports file. Fails only if a count would pass 2^64 - 1; no memory holds such a file.
     pub fn of_imports(content: &ImportsContent) -> Result<FileCounts, AllocError>
         ensures { IfOk result (λ counts. counts ≡ counts_of_imports content.now) }
     {
@@ -62,7 +62,8 @@ impl FileCounts {
         })
     }
 
-    /// The line that is printed of a file: what it holds, what was passed over, and a line feed.
+    /// The line that is printed about a file: the counts, those of ignored things, and a line feed. Fails only if
+    /// memory runs out.
     pub fn line(self, alloc: Global, notices: Notices) -> Result<String, AllocError>
         ensures { IfOk result (λ text. string_bytes text ≡ counts_line self notices) }
     {
@@ -73,7 +74,7 @@ impl FileCounts {
     }
 }
 
-/// What is printed of entries and what they name.
+/// The text of the criteria, entries and publishers.
 fn entries_text(alloc: Global, counts: FileCounts) -> Result<String, AllocError>
     ensures { IfOk result (λ text. string_bytes text ≡ entries_text counts) }
 {
@@ -83,7 +84,7 @@ fn entries_text(alloc: Global, counts: FileCounts) -> Result<String, AllocError>
     format!(in alloc; "criteria {criteria} entries {entries} publishers {publishers}")
 }
 
-/// What is printed of policies and peers.
+/// The text of the policies and peers.
 fn settings_text(alloc: Global, counts: FileCounts) -> Result<String, AllocError>
     ensures { IfOk result (λ text. string_bytes text ≡ settings_text counts) }
 {
@@ -92,7 +93,7 @@ fn settings_text(alloc: Global, counts: FileCounts) -> Result<String, AllocError
     format!(in alloc; "policies {policies} peers {peers}")
 }
 
-/// What is printed of what was passed over.
+/// The text of the ignored keys, entries and doubles.
 fn notices_text(alloc: Global, notices: Notices) -> Result<String, AllocError>
     ensures { IfOk result (λ text. string_bytes text ≡ notices_text notices) }
 {

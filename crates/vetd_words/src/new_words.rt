@@ -12,16 +12,15 @@ use std::alloc::Global;
 use std::convert::AsStr;
 use vet_base::limits::MOST_MOVES;
 
-/// What a new command asks for: a register at a path, and how many moves a period of it may record, from 1 to
-/// 1,000,000.
+/// A new command: the path of a register, and how many moves a period of it may record, from 1 to 1,000,000.
 #[derive(Clone, Copy)]
 pub struct NewWords<'a> {
     pub path: &'a str,
     pub moves_limit: usize,
 }
 
-/// What the words of a new command ask for, which come without the program's own name. Refused: clap's error of words
-/// that are no command line or ask for help, one of words that are another command, and `OutOfMemory`.
+/// Parses the words of a new command, which come without the program's own name. Refused: clap's error for words that
+/// are not a command line or ask for help, an error for words that are another command, and `OutOfMemory`.
 pub fn new_words<'a, S: AsStr>(alloc: Global, words: &'a [S]) -> Result<NewWords<'a>, Error>
     ensures found { IfOk result (λ asked. AsksNew (map S.text words.entry.now) (new_asked asked)) }
     ensures refused { IfErr result (λ error. kind_of error ≢ ErrorKind.OutOfMemory
@@ -40,7 +39,7 @@ pub fn new_words<'a, S: AsStr>(alloc: Global, words: &'a [S]) -> Result<NewWords
     }
 }
 
-/// What a new command asks for, where the words are one.
+/// The new command, if the words are one.
 fn asked_by<'a>(matches: &ArgMatches<'a>) -> Option<NewWords<'a>>
     ensures some { IfSome result (λ words. IfSome (rows_if_named (codes "new") (subcommand_rows_of matches.now))
         (λ rows. IsAskedBy rows (new_asked words))) }
@@ -52,7 +51,7 @@ fn asked_by<'a>(matches: &ArgMatches<'a>) -> Option<NewWords<'a>>
     words_of(subcommand)
 }
 
-/// The path and the limit of a new command.
+/// The path and the limit of a new command, if both are given and the limit is in its range.
 fn words_of<'a>(subcommand: &ArgMatches<'a>) -> Option<NewWords<'a>>
     ensures some { IfSome result (λ words. IsAskedBy (rows_of (found_of subcommand.now)) (new_asked words)) }
     ensures none { is_none result ≡ true → (asked : NewAsked)
@@ -63,7 +62,7 @@ fn words_of<'a>(subcommand: &ArgMatches<'a>) -> Option<NewWords<'a>>
     Some(NewWords { path, moves_limit })
 }
 
-/// The limit of moves that a text is, if it is one.
+/// The limit of moves that a text is, if it is a number from 1 to 1,000,000.
 fn limit_of(text: &str) -> Option<usize>
     ensures some { IfSome result (λ limit. IsLimit text.now limit) }
     ensures none { is_none result ≡ true → (limit : ℕ) → IsLimit text.now limit → ⊥ }

@@ -1,4 +1,4 @@
-//! What is printed of a file.
+//! The line that is printed about a file.
 ghost use Rattle.std.specs.Prelude.{string_bytes};
 ghost use Rattle.vet_base.specs.Gives.{Gives};
 ghost use Rattle.vetd_words.specs.ReadLine.{audits_line_told, config_line_told, file_line_told};
@@ -13,8 +13,8 @@ use vet_files::audits_file::read_audits;
 use vet_files::config_file::read_config;
 use vet_files::imports_file::read_imports;
 
-/// The line of a file. Refused, the first that holds: `TooLarge` of `input` for one of more than 8,388,608
-/// bytes, and what the reader of its kind refuses.
+/// The line of a file. Refused, the first that applies: `TooLarge` of `input` for a file of more than 8,388,608 bytes,
+/// and everything that the reader of its kind refuses.
 pub fn read_line(alloc: Global, kind: RegisterFile, file: &[u8]) -> Result<String, Refusal>
     ensures { Gives string_bytes (read_told kind file.now) result }
 {
@@ -22,7 +22,7 @@ pub fn read_line(alloc: Global, kind: RegisterFile, file: &[u8]) -> Result<Strin
     file_line(alloc, kind, file)
 }
 
-/// The line of a file.
+/// The line of a file, whatever its size.
 fn file_line(alloc: Global, kind: RegisterFile, file: &[u8]) -> Result<String, Refusal>
     ensures { Gives string_bytes (file_line_told kind file.now) result }
 {

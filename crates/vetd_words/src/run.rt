@@ -1,4 +1,4 @@
-//! A run, from what is asked and the input to what is written.
+//! A run of a command that reads a file, from the words and the input to the output.
 ghost use Rattle.std.specs.Prelude.{◌≡◌, ◌≢◌, ◌+◌, ◌⊎◌, IfOk, IfErr, map, string_bytes};
 ghost use Rattle.std.specs.Io.KnownBytes.{Keeps};
 ghost use Rattle.clap.specs.Words.{kind_of};
@@ -19,13 +19,14 @@ use vet_base::limits::MOST_INPUT_BYTES;
 use vet_requests::input::CountedReader;
 use vet_requests::io_fault::IoFault;
 
-/// Answers the words of a command, which come without the program's own name, by the file that the reader
-/// gives. The answer goes to `writer`, as help and the version do, and a refusal or clap's error to `errors`. What
-/// clap's texts say is left open. At most 8,388,609 bytes are read, by at most 10,000,000 reads.
+/// Answers the words of a command, which come without the program's own name, from the file that the reader gives. The
+/// answer goes to `writer`, as do help and the version, and a refusal or clap's error to `errors`. The content of
+/// clap's texts is left open. At most 8,388,609 bytes are read, by at most 10,000,000 reads.
 ///
-/// **A status comes with the whole answer to the words and the input.** The first that applies is the answer: clap's
-/// text of words that are no such command, and the command's own refusals. Refused: `Input`, `Endless` and
-/// `NoMemory`, where nothing was written, and `Output`, where the front of the answer was.
+/// **If a status is returned, the whole answer to the words and the input was written.** The answer is the first of
+/// these that applies: clap's text if the words are not such a command; a refusal of the command; its line. Fails with
+/// `Input`, `Endless` or `NoMemory`, and then nothing was written, or with `Output`, and then a prefix of the answer
+/// was.
 pub fn command_run<S: AsStr, R: Read, W: Write, E: Write>(
     alloc: Global,
     command: CommandKind,
@@ -47,19 +48,19 @@ pub fn command_run<S: AsStr, R: Read, W: Write, E: Write>(
         → Keeps (W.contents writer.old) (W.contents writer.new)
         × Keeps (E.contents errors.old) (E.contents errors.new)) }
 
-    // No more is read, and nothing where the words are no such command.
+    // No more is read, and nothing if the words are not such a command.
     ensures bounded { TakesAtMost (MOST_INPUT_BYTES + 1)
         (heard R.remaining reader.old) (heard R.remaining reader.new) }
     ensures unread { asked_by command (map S.text words.now) ≡ None → reader.new ≡ reader.old }
     ensures unfailing { asked_by command (map S.text words.now) ≡ None
         → IfErr result (λ fault. (fault ≢ IoFault.Input) × (fault ≢ IoFault.Endless)) }
 
-    // `Endless` comes when the reads are spent, and then nothing is printed of a file.
+    // `Endless` is returned only once all reads are made. If they were made before, nothing is printed about a file.
     ensures endless { result ≡ Err IoFault.Endless → reader.new.made ≡ MOST_READS }
     ensures spent { reader.old.made ≡ MOST_READS → asked_by command (map S.text words.now) ≢ None
         → (result ≡ Err IoFault.Endless) ⊎ (result ≡ Err IoFault.NoMemory) }
 
-    // Help and the version go to the output, and what is wrong with the words to the errors.
+    // Help and the version go to the output, and a fault of the words to the errors.
     ensures help { AskForHelp (map S.text words.now) → Keeps (E.contents errors.old) (E.contents errors.new) }
     ensures wrong { asked_by command (map S.text words.now) ≡ None → AskForNoHelp (map S.text words.now)
         → Keeps (W.contents writer.old) (W.contents writer.new) }
@@ -89,19 +90,19 @@ pub fn class_run<S: AsStr, R: Read, W: Write, E: Write>(
         → Keeps (W.contents writer.old) (W.contents writer.new)
         × Keeps (E.contents errors.old) (E.contents errors.new)) }
 
-    // No more is read, and nothing where the words are no such command.
+    // No more is read, and nothing if the words are not such a command.
     ensures bounded { TakesAtMost (MOST_INPUT_BYTES + 1)
         (heard R.remaining reader.old) (heard R.remaining reader.new) }
     ensures unread { asked_by CommandKind.Class (map S.text words.now) ≡ None → reader.new ≡ reader.old }
     ensures unfailing { asked_by CommandKind.Class (map S.text words.now) ≡ None
         → IfErr result (λ fault. (fault ≢ IoFault.Input) × (fault ≢ IoFault.Endless)) }
 
-    // `Endless` comes when the reads are spent, and then nothing is printed of a file.
+    // `Endless` is returned only once all reads are made. If they were made before, nothing is printed about a file.
     ensures endless { result ≡ Err IoFault.Endless → reader.new.made ≡ MOST_READS }
     ensures spent { reader.old.made ≡ MOST_READS → asked_by CommandKind.Class (map S.text words.now) ≢ None
         → (result ≡ Err IoFault.Endless) ⊎ (result ≡ Err IoFault.NoMemory) }
 
-    // Help and the version go to the output, and what is wrong with the words to the errors.
+    // Help and the version go to the output, and a fault of the words to the errors.
     ensures help { AskForHelp (map S.text words.now) → Keeps (E.contents errors.old) (E.contents errors.new) }
     ensures wrong { asked_by CommandKind.Class (map S.text words.now) ≡ None → AskForNoHelp (map S.text words.now)
         → Keeps (W.contents writer.old) (W.contents writer.new) }
@@ -130,19 +131,19 @@ pub fn read_run<S: AsStr, R: Read, W: Write, E: Write>(
         → Keeps (W.contents writer.old) (W.contents writer.new)
         × Keeps (E.contents errors.old) (E.contents errors.new)) }
 
-    // No more is read, and nothing where the words are no such command.
+    // No more is read, and nothing if the words are not such a command.
     ensures bounded { TakesAtMost (MOST_INPUT_BYTES + 1)
         (heard R.remaining reader.old) (heard R.remaining reader.new) }
     ensures unread { asked_by CommandKind.Read (map S.text words.now) ≡ None → reader.new ≡ reader.old }
     ensures unfailing { asked_by CommandKind.Read (map S.text words.now) ≡ None
         → IfErr result (λ fault. (fault ≢ IoFault.Input) × (fault ≢ IoFault.Endless)) }
 
-    // `Endless` comes when the reads are spent, and then nothing is printed of a file.
+    // `Endless` is returned only once all reads are made. If they were made before, nothing is printed about a file.
     ensures endless { result ≡ Err IoFault.Endless → reader.new.made ≡ MOST_READS }
     ensures spent { reader.old.made ≡ MOST_READS → asked_by CommandKind.Read (map S.text words.now) ≢ None
         → (result ≡ Err IoFault.Endless) ⊎ (result ≡ Err IoFault.NoMemory) }
 
-    // Help and the version go to the output, and what is wrong with the words to the errors.
+    // Help and the version go to the output, and a fault of the words to the errors.
     ensures help { AskForHelp (map S.text words.now) → Keeps (E.contents errors.old) (E.contents errors.new) }
     ensures wrong { asked_by CommandKind.Read (map S.text words.now) ≡ None → AskForNoHelp (map S.text words.now)
         → Keeps (W.contents writer.old) (W.contents writer.new) }
@@ -150,8 +151,8 @@ pub fn read_run<S: AsStr, R: Read, W: Write, E: Write>(
     command_run(alloc, CommandKind::Read, words, reader, writer, errors)
 }
 
-/// Answers what is asked by the file that the reader gives, or explains clap's error, to the writers that
-/// `command_run` takes.
+/// Answers a query from the file that the reader gives, or writes clap's error, to the writers that `command_run`
+/// takes.
 fn run<R: Read, W: Write, E: Write>(
     alloc: Global,
     asked: Result<FileQuery<'_>, Error>,
@@ -170,7 +171,7 @@ fn run<R: Read, W: Write, E: Write>(
         → Keeps (W.contents writer.old) (W.contents writer.new)
         × Keeps (E.contents errors.old) (E.contents errors.new)) }
 
-    // No more is read, and nothing if there is an error; running out of memory is reported as that.
+    // No more is read, and nothing if there is an error. If clap ran out of memory, the fault is `NoMemory`.
     ensures bounded { TakesAtMost (MOST_INPUT_BYTES + 1)
         (heard R.remaining reader.old) (heard R.remaining reader.new) }
     ensures unread { IfErr asked.entry (λ _. reader.new ≡ reader.old) }
@@ -179,12 +180,12 @@ fn run<R: Read, W: Write, E: Write>(
     ensures memory { IfErr asked.entry (λ error. kind_of error ≡ ErrorKind.OutOfMemory
         → result ≡ Err IoFault.NoMemory) }
 
-    // `Endless` comes when the reads are spent, and then nothing is printed.
+    // `Endless` is returned only once all reads are made. If they were made before, nothing is printed.
     ensures endless { result ≡ Err IoFault.Endless → reader.new.made ≡ MOST_READS }
     ensures spent { reader.old.made ≡ MOST_READS
         → IfOk asked.entry (λ _. result ≡ Err IoFault.Endless) }
 
-    // Help and the version go to the output, and what is wrong to the errors.
+    // Help and the version go to the output, and any other error to the errors.
     ensures help { IfErr asked.entry (λ error. kind_of error ≡ ErrorKind.DisplayHelp
         → Keeps (E.contents errors.old) (E.contents errors.new)) }
     ensures version { IfErr asked.entry (λ error. kind_of error ≡ ErrorKind.DisplayVersion

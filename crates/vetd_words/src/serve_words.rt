@@ -14,11 +14,11 @@ use std::convert::AsStr;
 /// The greatest number of a port.
 pub const LAST_PORT: u32 = 65_535;
 
-/// The most connections for which a run may wait.
+/// The greatest number of connections for which a run may wait.
 pub const MOST_CONNECTIONS: u32 = 1_000_000;
 
-/// What a serve command asks for: a port, how many connections it waits for, and, if they are said, the database file
-/// at a path and the text of a day.
+/// A serve command: a port from 1 to 65,535, how many connections it waits for, from 1 to 1,000,000, and, if they are
+/// given, the path of a database file and the text of a day.
 #[derive(Clone, Copy)]
 pub struct ServeWords<'a> {
     pub port: u16,
@@ -27,8 +27,8 @@ pub struct ServeWords<'a> {
     pub day: Option<&'a str>,
 }
 
-/// What the words of a serve command ask for, which come without the program's own name. Refused: clap's error of
-/// words that are no command line or ask for help, one of words that are another command, and `OutOfMemory`.
+/// Parses the words of a serve command, which come without the program's own name. Refused: clap's error for words that
+/// are not a command line or ask for help, an error for words that are another command, and `OutOfMemory`.
 pub fn serve_words<'a, S: AsStr>(alloc: Global, words: &'a [S]) -> Result<ServeWords<'a>, Error>
     ensures found { IfOk result (λ asked. AsksServe (map S.text words.entry.now) (serve_asked asked)) }
     ensures few { IfOk result (λ asked. asked.connections ≤ MOST_CONNECTIONS) }
@@ -48,7 +48,7 @@ pub fn serve_words<'a, S: AsStr>(alloc: Global, words: &'a [S]) -> Result<ServeW
     }
 }
 
-/// What a serve command asks for, where the words are one.
+/// The serve command, if the words are one.
 fn asked_by<'a>(matches: &ArgMatches<'a>) -> Option<ServeWords<'a>>
     ensures some { IfSome result (λ words. IfSome (rows_if_named (codes "serve") (subcommand_rows_of matches.now))
         (λ rows. IsServeAskedBy rows (serve_asked words))) }
@@ -61,7 +61,7 @@ fn asked_by<'a>(matches: &ArgMatches<'a>) -> Option<ServeWords<'a>>
     words_of(subcommand)
 }
 
-/// The values of the options of a serve command.
+/// The values of the options of a serve command, if the required ones are given and in their ranges.
 fn words_of<'a>(subcommand: &ArgMatches<'a>) -> Option<ServeWords<'a>>
     ensures some { IfSome result (λ words. IsServeAskedBy (rows_of (found_of subcommand.now)) (serve_asked words)) }
     ensures few { IfSome result (λ words. words.connections ≤ MOST_CONNECTIONS) }
@@ -80,7 +80,7 @@ fn words_of<'a>(subcommand: &ArgMatches<'a>) -> Option<ServeWords<'a>>
     })
 }
 
-/// The number from 1 to `most` that a text is, if it is one.
+/// The number that a text is, if it is one from 1 to `most`.
 fn number_up_to(most: u32, text: &str) -> Option<u32>
     ensures some { IfSome result (λ number. IsNumberUpTo most text.now number) }
     ensures none { is_none result ≡ true → (number : ℕ) → IsNumberUpTo most text.now number → ⊥ }

@@ -1,4 +1,4 @@
-//! The word too many after a command that reads a file on standard input.
+//! The first extra word after a command that reads a file on standard input.
 ghost use Rattle.std.specs.List.{list_any};
 ghost use Rattle.std.specs.Prelude.{◌≡◌, map, option_map};
 ghost use Rattle.vetd_words.specs.Surplus.{is_flag, surplus_of, words_taken};
@@ -18,7 +18,7 @@ pub(crate) fn surplus_word<S: AsStr>(words: &[S]) -> Option<&str>
     Some(word.as_str())
 }
 
-/// How many words a command takes that reads a file on standard input, its name among them.
+/// The number of words, including its name, that a command takes if it reads a file on standard input.
 fn words_taken(name: &str) -> Option<usize>
     ensures { result ≡ words_taken name.now }
 {

@@ -1,4 +1,4 @@
-//! What is shown of a register.
+//! The texts of a register that commands print.
 ghost use Rattle.std.specs.Prelude.{◌≡◌, IfErr, IfOk, string_bytes};
 ghost use Rattle.vetd_words.specs.View.{Shows};
 
@@ -9,8 +9,8 @@ use vet_graph::keeper::Keeper;
 use vet_register::register::Register;
 use vet_reports::report::Report;
 
-/// What a command shows of a register. A further one is a row here, a row in `text`, and the function that makes its
-/// text.
+/// A text of a register that a command prints. A new one needs a row here, a row in `text`, and the function that makes
+/// its text.
 #[derive(Clone, Copy)]
 pub enum View {
     Export(RegisterFile),
@@ -18,7 +18,7 @@ pub enum View {
 }
 
 impl View {
-    /// The text that is shown. Refused: `NoMemory`.
+    /// The text that is printed. Refused: `NoMemory`.
     pub fn text<K: Keeper>(self, alloc: Global, register: &Register<K>) -> Result<String, Refusal>
         ensures shows { IfOk result (λ text. Shows self register.now.state (string_bytes text)) }
         ensures memory { IfErr result (λ e. e ≡ Refusal.NoMemory) }

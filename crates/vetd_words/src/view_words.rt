@@ -1,4 +1,4 @@
-//! The words of a command that shows something of a register.
+//! The words of a command that prints a text of a register.
 ghost use Rattle.std.specs.Prelude.{◌≡◌, ◌≢◌, [], IfErr, IfOk, map, option_and_then, option_map};
 ghost use Rattle.clap.specs.Words.{found_of, kind_of, rows_of, subcommand_rows_of};
 ghost use Rattle.vetd_words.specs.ViewWords.{name_of, view_asked, view_from, view_given, view_named};
@@ -15,14 +15,14 @@ use std::alloc::{AllocError, Global};
 use std::convert::AsStr;
 use vet_reports::report::{REPORT_WORDS, Report};
 
-/// A command that shows something of a register. A further one is a row here and in each function below.
+/// A command that prints a text of a register. A new one needs a row here and in each function below.
 #[derive(Clone, Copy)]
 pub enum ViewCommand {
     Export,
     Report,
 }
 
-/// A path, and what is to be shown of the register there.
+/// The path of a register, and the text of it that is to be printed.
 #[derive(Clone, Copy)]
 pub struct ViewWords<'a> {
     pub path: &'a str,
@@ -40,7 +40,7 @@ impl ViewCommand {
         }
     }
 
-    /// What the word for its kind asks to be shown.
+    /// The text that a word for KIND asks for, if it names one.
     fn view(self, word: &str) -> Option<View>
         ensures { result ≡ view_named self word.now }
     {
@@ -51,8 +51,9 @@ impl ViewCommand {
     }
 }
 
-/// What the words of such a command ask for, which come without the program's own name. Refused: clap's error of words
-/// that are no command line or ask for help, one of words that are another command or name no kind, and `OutOfMemory`.
+/// Parses the words of such a command, which come without the program's own name. Refused: clap's error for words that
+/// are not a command line or ask for help, an error for words that are another command or name no kind, and
+/// `OutOfMemory`.
 pub fn view_words<'a, S: AsStr>(
     alloc: Global,
     command: ViewCommand,
@@ -72,7 +73,7 @@ pub fn view_words<'a, S: AsStr>(
     }
 }
 
-/// The error of a word that is no kind, which it names; or of words that are another command.
+/// The error for a word that is no kind, which it names, or for words that are another command.
 fn no_kind(
     alloc: Global,
     command: ViewCommand,
@@ -100,7 +101,7 @@ fn kind_word<'a>(command: ViewCommand, matches: &ArgMatches<'a>) -> Option<&'a s
     value(matches_if_named(matches, command.name())?, "KIND")
 }
 
-/// What such a command asks for, where the words are one.
+/// The path and the text that such a command asks for, if the words are one.
 fn asked_by<'a>(command: ViewCommand, matches: &ArgMatches<'a>) -> Option<ViewWords<'a>>
     ensures { option_map view_asked result
         ≡ option_and_then (view_from command) (rows_if_named (name_of command) (subcommand_rows_of matches.now)) }
@@ -108,7 +109,7 @@ fn asked_by<'a>(command: ViewCommand, matches: &ArgMatches<'a>) -> Option<ViewWo
     words_of(command, matches_if_named(matches, command.name())?)
 }
 
-/// The path, and what the word for the kind asks to be shown.
+/// The path, and the text that the word for KIND asks for, if both are given.
 fn words_of<'a>(command: ViewCommand, subcommand: &ArgMatches<'a>) -> Option<ViewWords<'a>>
     ensures { option_map view_asked result ≡ view_from command (rows_of (found_of subcommand.now)) }
 {

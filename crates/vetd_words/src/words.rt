@@ -1,4 +1,4 @@
-//! The command line.
+//! The command line, as clap parses it.
 ghost use Rattle.std.specs.Prelude.{◌≡◌, ◌≢◌, [], IfOk, IfErr, codes, false, map, option_and_then, option_map, true};
 ghost use Rattle.clap.specs.Words.{App, Rule, first_of, found_of, kind_of, rows_of, with_rule};
 ghost use Rattle.clap.specs.Words.{subcommand_rows_of, Text};
@@ -25,7 +25,7 @@ use std::alloc::{AllocError, Global};
 use std::convert::AsStr;
 use vet_documents::register_file::RegisterFile;
 
-/// What a class command asks for.
+/// The three words of a class command.
 #[derive(Clone, Copy)]
 pub struct ClassWords<'a> {
     pub package_name: &'a str,
@@ -33,9 +33,8 @@ pub struct ClassWords<'a> {
     pub criterion: &'a str,
 }
 
-/// What the words of a class command ask for, which come without the program's own name. Refused: clap's
-/// error of words that are no command line or ask for help, one of words that are another command, and
-/// `OutOfMemory`.
+/// Parses the words of a class command, which come without the program's own name. Refused: clap's error for words that
+/// are not a command line or ask for help, an error for words that are another command, and `OutOfMemory`.
 pub fn class_words<'a, S: AsStr>(alloc: Global, words: &'a [S]) -> Result<ClassWords<'a>, Error>
     ensures found { IfOk result (λ asked. class_given (map S.text words.entry.now) ≡ Some (asked_of asked)) }
     ensures refused { IfErr result (λ error. kind_of error ≢ ErrorKind.OutOfMemory
@@ -54,9 +53,9 @@ pub fn class_words<'a, S: AsStr>(alloc: Global, words: &'a [S]) -> Result<ClassW
     }
 }
 
-/// The kind of file that the words of a read command name, which come without the program's own name.
-/// Refused: clap's error of words that are no command line or ask for help, one of words that are another
-/// command or name no kind, and `OutOfMemory`.
+/// The kind of file that the words of a read command name, which come without the program's own name. Refused: clap's
+/// error for words that are not a command line or ask for help, an error for words that are another command or name no
+/// kind, and `OutOfMemory`.
 pub fn read_words<S: AsStr>(alloc: Global, words: &[S]) -> Result<RegisterFile, Error>
     ensures found { IfOk result (λ kind. read_given (map S.text words.now) ≡ Some kind) }
     ensures refused { IfErr result (λ error. kind_of error ≢ ErrorKind.OutOfMemory
@@ -71,7 +70,7 @@ pub fn read_words<S: AsStr>(alloc: Global, words: &[S]) -> Result<RegisterFile, 
     }
 }
 
-/// The error of a word that is no kind of file, which it names; or of words that are another command.
+/// The error for a word that is no kind of file, which it names, or for words that are another command.
 fn no_kind(alloc: Global, matches: &ArgMatches<'_>) -> Result<Error, AllocError>
     ensures { IfOk result (λ error. kind_of error ≡ ErrorKind.InvalidValue) }
 {
@@ -80,7 +79,8 @@ fn no_kind(alloc: Global, matches: &ArgMatches<'_>) -> Result<Error, AllocError>
     invalid_kind(alloc, command, word, FILE_WORDS)
 }
 
-/// The error of a word for KIND that the command doesn't take, in clap's words: those that it takes, and its usage.
+/// The error for a word for KIND that the command doesn't take, in clap's form: with the words that it takes, and its
+/// usage.
 pub(crate) fn invalid_kind(
     alloc: Global,
     command: Command<'_>,
@@ -113,7 +113,7 @@ pub fn begin_with<S: AsStr>(words: &[S], name: &str) -> bool
     }
 }
 
-/// The error of words that are no text.
+/// The error for words that are not text.
 pub fn not_text(alloc: Global) -> Result<Error, AllocError>
     ensures { IfOk result (λ error. kind_of error ≡ ErrorKind.Format) }
 {
@@ -135,7 +135,7 @@ pub(crate) fn words_error(
     top_command(alloc)?.error(kind, message)
 }
 
-/// What clap makes of the words. If a word is too many, its error says how a file is given.
+/// The words as clap parses them. If there is an extra word, the error says how a file is given.
 pub(crate) fn matches_of<'a, S: AsStr>(
     alloc: Global,
     words: &'a [S],
@@ -153,7 +153,7 @@ pub(crate) fn matches_of<'a, S: AsStr>(
     }
 }
 
-/// What clap gives of the words.
+/// The words as clap parses them, with clap's own error.
 fn matches_by_clap<'a, S: AsStr>(alloc: Global, words: &'a [S]) -> Result<ArgMatches<'a>, Error>
     ensures found { IfOk result (λ matches. (name : Text) → rows_given name (map S.text words.entry.now)
         ≡ rows_if_named name (subcommand_rows_of matches)) }
@@ -165,7 +165,7 @@ fn matches_by_clap<'a, S: AsStr>(alloc: Global, words: &'a [S]) -> Result<ArgMat
     top_command(alloc)?.try_get_matches_from(words)
 }
 
-/// The error, or, if a word too many is why, one of the same kind that says how a file is given.
+/// The error or, if its cause is an extra word, one of the same kind that says how a file is given.
 fn hinted<S: AsStr>(alloc: Global, words: &[S], error: Error) -> Result<Error, AllocError>
     ensures { IfOk result (λ e. kind_of e ≡ kind_of error) }
 {
@@ -199,7 +199,7 @@ fn exported_commands<'a>(alloc: Global) -> Result<Command<'a>, AllocError>
     reported_commands(alloc)?.subcommand(export)
 }
 
-/// The command line with the subcommands that read a file, make a register, change one or report of one.
+/// The command line with the subcommands that read a file, make a register, change one or report on one.
 fn reported_commands<'a>(alloc: Global) -> Result<Command<'a>, AllocError>
     ensures { IfOk result (IsApp reported_app) }
 {
@@ -344,7 +344,7 @@ fn serve_command<'a>(alloc: Global) -> Result<Command<'a>, AllocError>
     add(command, day_option(alloc, false))
 }
 
-/// The command with the path of a register, and the kind of what it shows.
+/// The command with the path of a register, and the kind of text that it prints.
 fn with_kind<'a>(
     alloc: Global,
     command: Command<'a>,
@@ -431,7 +431,7 @@ fn word<'a>(alloc: Global, id: &'a str, help: &'a str) -> Arg<'a>
     Arg::new(alloc, id).required(true).help(help)
 }
 
-/// The command with an argument more.
+/// The command with one more argument.
 fn add<'a>(command: Command<'a>, arg: Arg<'a>) -> Result<Command<'a>, AllocError>
     ensures { (app : App) (rule : Rule) → IsApp app command.entry → IsRule rule arg.entry
         → IfOk result (IsApp (with_rule app rule)) }
@@ -439,7 +439,7 @@ fn add<'a>(command: Command<'a>, arg: Arg<'a>) -> Result<Command<'a>, AllocError
     command.arg(arg)
 }
 
-/// The words of a class command, where it is one.
+/// The words of a class command, if the command is one.
 fn class_asked<'a>(matches: &ArgMatches<'a>) -> Option<ClassWords<'a>>
     ensures { option_map asked_of result
         ≡ option_and_then words_from (rows_if_named (codes "class") (subcommand_rows_of matches.now)) }
@@ -447,7 +447,7 @@ fn class_asked<'a>(matches: &ArgMatches<'a>) -> Option<ClassWords<'a>>
     words_of(matches_if_named(matches, "class")?)
 }
 
-/// The kind that a read command names, where it is one.
+/// The kind that a read command names, if the command is one.
 fn kind_asked(matches: &ArgMatches<'_>) -> Option<RegisterFile>
     ensures { result
         ≡ option_and_then kind_from (rows_if_named (codes "read") (subcommand_rows_of matches.now)) }
@@ -455,7 +455,7 @@ fn kind_asked(matches: &ArgMatches<'_>) -> Option<RegisterFile>
     kind_of_file(matches_if_named(matches, "read")?)
 }
 
-/// The matches of the subcommand, where it is the one of this name.
+/// The matches of the subcommand, if it is the one of this name.
 pub(crate) fn matches_if_named<'m, 'a>(
     matches: &'m ArgMatches<'a>,
     name: &str,
@@ -488,7 +488,7 @@ fn kind_of_file(subcommand: &ArgMatches<'_>) -> Option<RegisterFile>
     file_of_word(value(subcommand, "KIND")?)
 }
 
-/// The value of an argument.
+/// The value of an argument, if it is given.
 pub(crate) fn value<'a>(subcommand: &ArgMatches<'a>, id: &str) -> Option<&'a str>
     ensures { option_map (λ s. s.now) result ≡ first_of id.now (rows_of (found_of subcommand.now)) }
 {
