@@ -1,4 +1,4 @@
--- What applying a command document to a register in a database comes to, and is answered (ours).
+-- The application of a command document to a register in a database, and its answer (ours).
 use Rattle.std.specs.Prelude.{◌≡◌, ◌⊎◌, [], ◌∷◌, Bool, IsTrue, Option, Some, None, Ok, Err, option_and_then, ⊤}
 use Rattle.clap.specs.Walk.{Text}
 use Rattle.sqlite.specs.Held.{Held, state}
@@ -29,11 +29,11 @@ use Rattle.vetd_commands.specs.Opening.{IsNotOpened, IsOpenedAs}
 use Rattle.vetd_words.specs.Answer.{Answer, Explains, IsInput, Prints, Refuses, Serves, input_read}
 use Rattle.vetd_words.specs.ApplyWords.{ApplyAsked}
 
--- A command was run on a register whose rows were in the tables of an open connection. Its answer is its verdict, or
--- there was no memory or the store refused, where either may come in place of the verdict; and the headline holds of
--- it. The tables have the rows of the state that is left, and all else in the database is as it was. If there is an
--- outcome, the store was not shut. A crash leaves these rows, or those of the state after the command beside all else
--- that was there.
+-- A command was run on a register whose rows were in the tables of an open connection. Its answer is its verdict; or
+-- memory ran out or the store refused, if either may come in place of the verdict. The headline holds of it. The tables
+-- have the rows of the state that is left, and everything else in the database is as it was. If there is an outcome,
+-- the store was not shut. A crash leaves these rows, or those of the state after the command, with everything else that
+-- was there.
 pub record IsRunOf {S : Type 0} (g : Ghosts S) (opened : Held S) (register : State) (command : Command)
     (answer : Told Outcome) (after : Held S) : Type 0 where
   pub end : State
@@ -55,8 +55,8 @@ module _ {S : Type 0} (g : Ghosts S) (document : Bytes) (day : DayValue) (giver 
     pub told : command_told document day giver ≡ Ok command
     pub run : IsRunOf g opened register command answer after
 
-  -- The answer to a document over an open register: the line of an outcome; or the document is no command or memory was
-  -- wanting, and nothing was done; or its command was refused.
+  -- The answer to a document over an open register: the line of an outcome; or the document is not a command or memory
+  -- ran out, and nothing was done; or its command was refused.
   abbrev pub IsDocumentAnswer : Held S → State → Answer → Held S → Type 0
   IsDocumentAnswer opened register (Prints text) after =
       (outcome : Outcome) × ((text ≡ outcome_text outcome) × IsGiven opened register (Ok outcome) after)
@@ -86,33 +86,33 @@ abbrev pub day_given : Option ApplyAsked → Option DayValue
 day_given asked = option_and_then (λ a. read_day a.day) asked
 
 module _ {S : Type 0} (g : Ghosts S) (Gives : Giving S) where
-  -- The answer to a document that is given on a day, and the connection that is left: the path gave none, or the answer
-  -- is that over the one that it gave.
+  -- The answer to a document that is given on a day, and the connection that is left: memory ran out or the path gave
+  -- no connection, or the answer is that over the connection that it gave.
   abbrev pub IsApplyFor : Text → Option Bytes → DayValue → Bytes → Answer → Option (Held S) → Type 0
   IsApplyFor path giver day document answer (Some after) = (before : Held S) × (Gives path (Ok before)
       × IsApplyAnswer g document day giver before answer after)
   IsApplyFor path giver day document (Refuses refusal) None = (refusal ≡ NoMemory) ⊎ Gives path (Err refusal)
   IsApplyFor path giver day document _ None = ⊥
 
-  -- the same where the day is still a text: a bad one goes before all else
+  -- the same if the day is still a text: a bad one is refused before everything else
   abbrev pub IsApplyOn : Text → Option Bytes → Option DayValue → Bytes → Answer → Option (Held S) → Type 0
   IsApplyOn path giver (Some day) document answer left = IsApplyFor path giver day document answer left
   IsApplyOn path giver None document answer left = (answer ≡ Refuses BadDay) × (left ≡ None)
 
-  -- the same of what words ask for: they are explained where they ask for nothing
+  -- the same for words: they are explained if they are not an apply command
   abbrev pub IsAnswerToApply : Option ApplyAsked → Bytes → Answer → Option (Held S) → Type 0
   IsAnswerToApply (Some asked) document answer left =
       IsApplyOn asked.path asked.member (read_day asked.day) document answer left
   IsAnswerToApply None document Explains left = left ≡ None
   IsAnswerToApply None document _ left = ⊥
 
-  -- this holds of the answer to what the words ask for and the input, of which at most a byte too many is read
+  -- this holds of the answer to the words and the input, of which at most one byte too many is read
   abbrev pub AnswersApply : Heard → Heard → Option ApplyAsked → Option (Held S) → (Answer → Type 0) → Type 0
   AnswersApply before after asked left Holds = (input : Bytes) × (IsInput before after (day_given asked) input
       × ((answer : Answer) × (IsAnswerToApply asked (input_read input) answer left × Holds answer)))
 
-  -- What a run without an answer says of the connection that is left: it is as after a refusal. Of a database without
-  -- one it says nothing.
+  -- After a run without an answer, a connection that is left is as after a refusal. Nothing is said of a database if no
+  -- connection is left.
   abbrev pub IsUnapplied : Heard → Heard → Option ApplyAsked → Option (Held S) → Type 0
   IsUnapplied before after asked None = ⊤
   IsUnapplied before after asked (Some conn) = (input : Bytes) × (IsInput before after (day_given asked) input

@@ -1,4 +1,4 @@
--- What opening the register in a database comes to (ours).
+-- The register that is opened in a database, and the database afterwards (ours).
 use Rattle.std.specs.Prelude.{◌≡◌, ◌⊎◌, false, IsTrue}
 use Rattle.sqlite.specs.Held.{Held, state}
 use Rattle.sqlite.specs.State.{HasCleanDisk, Survives}

@@ -1,4 +1,4 @@
-//! A command document is applied to a register in a database, by the words of an apply command.
+//! The apply command, which applies a command document to a register in a database.
 ghost use Rattle.std.specs.Prelude.{◌≡◌, ◌≢◌, ◌⊎◌, ◌+◌, ◌≤◌, IfErr, IfOk, None, false, map, string_bytes};
 ghost use Rattle.std.specs.Prelude.{[], IsOkAnd, Some, option_map, string_capacity};
 ghost use Rattle.std.specs.Io.KnownBytes.{Keeps};
@@ -35,17 +35,18 @@ use vet_store::store::Store;
 use vetd_words::answer::{explain, report};
 use vetd_words::apply_words::{ApplyWords, apply_words};
 
-/// Answers the words of an apply command, which come without the program's own name, by the document that the reader
-/// gives. The line of the outcome goes to `writer`, as help does, and a refusal or clap's error to `errors`. At most
-/// 8,388,609 bytes are read, by at most 10,000,000 reads.
+/// Answers the words of an apply command, which come without the program's own name, from the document that the reader
+/// gives. The line of the outcome goes to `writer`, as do help and the version, and a refusal or clap's error to
+/// `errors`. At most 8,388,609 bytes are read, by at most 10,000,000 reads.
 ///
-/// **What is printed is the outcome of the document's command in the one register whose rows stand in the tables of the
-/// database at the path, and the tables then have the rows of the state after it.** Refused, as its user reads it, the
-/// first that holds: `BadDay` of the text of the day, before anything is read; `NotARegister` where no file stands at
-/// the path or the tables have the rows of no register, and `StoreRefused` where no database can be opened or read
-/// there; what `read_command` refuses of the document; what the machine refuses of the command, and `StoreRefused`
-/// where the database refuses to keep it. Faults: `Input`, `Endless` and `NoMemory`, where nothing was written, and
-/// `Output`, where the front of the answer was.
+/// **The printed line is the outcome of the document's command in the one register whose rows are in the tables of the
+/// database at the path, and the tables then have the rows of the state after it.** Refusals that the user reads, the
+/// first that applies: `BadDay` if the text of the day is not a day, before anything is read; `NotARegister` if there
+/// is no file at the path, if the tables have the rows of no register, or if they are of the first version and a name
+/// that only the second has is taken, and `StoreRefused` if no database can be opened or read there; everything that
+/// `read_command` refuses of the document; everything that the machine refuses of the command, and `StoreRefused` if
+/// the database refuses to store it. Faults: `Input`, `Endless` and `NoMemory` if nothing was printed, and `Output` if
+/// a prefix of the answer was.
 pub fn apply_run<
     T: AsStr,
     S: Alter + Drop,
@@ -71,19 +72,19 @@ pub fn apply_run<
         result.status (W.contents writer.old) (W.contents writer.new)
         (E.contents errors.old) (E.contents errors.new) }
 
-    // No more is read, and nothing where the words are no apply command or the day is none.
+    // No more is read, and nothing if the words are not an apply command or the text of the day is not a day.
     ensures bounded { TakesAtMost (MOST_INPUT_BYTES + 1)
         (heard R.remaining reader.old) (heard R.remaining reader.new) }
     ensures unread { day_given (apply_given (map T.text words.now)) ≡ None → reader.new ≡ reader.old }
     ensures unfailing { day_given (apply_given (map T.text words.now)) ≡ None
         → IfErr result.status (λ fault. (fault ≢ IoFault.Input) × (fault ≢ IoFault.Endless)) }
 
-    // `Endless` comes when the reads are spent, and where they are, no document is answered.
+    // `Endless` is returned only once all reads are made. If they were made before, no document is answered.
     ensures endless { result.status ≡ Err IoFault.Endless → reader.new.made ≡ MOST_READS }
     ensures spent { reader.old.made ≡ MOST_READS → day_given (apply_given (map T.text words.now)) ≢ None
         → (result.status ≡ Err IoFault.Endless) ⊎ (result.status ≡ Err IoFault.NoMemory) }
 
-    // Help and the version go to the output, and what is wrong with the words to the errors.
+    // Help and the version go to the output, and a fault of the words to the errors.
     ensures help { AskForHelp (map T.text words.now) → Keeps (E.contents errors.old) (E.contents errors.new) }
     ensures wrong { apply_given (map T.text words.now) ≡ None
         → AskForNoHelp (map T.text words.now) → Keeps (W.contents writer.old) (W.contents writer.new) }
@@ -97,7 +98,7 @@ pub fn apply_run<
     }
 }
 
-/// Applies the document that the reader gives, as it is asked.
+/// Applies the document that the reader gives, as the words ask.
 fn apply_on<S: Alter + Drop, K: Keeper, D: Databases<S>, R: Read, W: Write, E: Write>(
     alloc: Global,
     asked: ApplyWords<'_>,
@@ -151,7 +152,7 @@ fn apply_on<S: Alter + Drop, K: Keeper, D: Databases<S>, R: Read, W: Write, E: W
     DatabaseRun { status, conn }
 }
 
-/// The bytes of a text, where there is one.
+/// The bytes of a text, if there is one.
 fn bytes_of(text: Option<&str>) -> Option<&[u8]>
     ensures { option_copied result ≡ option_map (λ t. t.now) text.entry }
 {
@@ -161,8 +162,8 @@ fn bytes_of(text: Option<&str>) -> Option<&[u8]>
     }
 }
 
-/// Applies a document to the register at a path. Room for the line of the outcome is taken first, since it is printed
-/// once the command is kept.
+/// Applies a document to the register at a path. Room for the line of the outcome is taken first, since the line is
+/// printed after the command is stored.
 fn apply_at<S: Alter + Drop, K: Keeper, D: Databases<S>>(
     alloc: Global,
     databases: &mut D,
@@ -186,7 +187,7 @@ fn apply_at<S: Alter + Drop, K: Keeper, D: Databases<S>>(
     (told, Some(conn))
 }
 
-/// Applies a document to the register in the tables of a connection, which is given back.
+/// Applies a document to the register in the tables of a connection, and returns the connection.
 fn applied<S: Alter + Drop, K: Keeper>(
     alloc: Global,
     conn: Connection<S>,
@@ -211,7 +212,7 @@ fn applied<S: Alter + Drop, K: Keeper>(
     run_document(alloc, store, document, day, giver, line)
 }
 
-/// Runs the command of a document on an open register, and gives the connection back.
+/// Runs the command of a document on an open register, and returns the connection.
 fn run_document<S: Alter + Drop, K: Keeper>(
     alloc: Global,
     store: Store<S, K>,

@@ -1,4 +1,4 @@
-//! A register is made in a database, by the words of a new command.
+//! The new command, which makes a register in a database.
 ghost use Rattle.std.specs.Prelude.{◌≡◌, ◌≢◌, ◌<◌, ◌≤◌, IfErr, IfOk, OnOk, false, map, string_bytes};
 ghost use Rattle.std.specs.Io.KnownBytes.{Keeps};
 ghost use Rattle.vetd_commands.specs.Making.{AnswersNew, IsAnswerFor, IsNewRegister, IsNoRegister, IsUnmade};
@@ -21,12 +21,12 @@ use vetd_words::answer::{explain, report};
 use vetd_words::new_words::{NewWords, new_words};
 
 /// Answers the words of a new command, which come without the program's own name: makes a register in the database at
-/// their path. `created` goes to `writer`, as help does, and a refusal or clap's error to `errors`.
+/// their path. `created` goes to `writer`, as do help and the version, and a refusal or clap's error to `errors`.
 ///
 /// **If it prints `created`, the register is in the tables, and outlasts a crash. After a refusal, or if memory ran
-/// out, the database holds what it held.** Refused, as its user reads it: `StoreRefused` if no database can be opened
-/// or written there, and `NotARegister` if a table, an index or a view has a name of the register's tables. Faults:
-/// `NoMemory`, with nothing written, and `Output`, with a prefix of the answer written.
+/// out, the database holds what it held before.** Refusals that the user reads: `StoreRefused` if no database can be
+/// opened or written there, and `NotARegister` if a table, an index or a view has a name of the register's tables.
+/// Faults: `NoMemory` if nothing was printed, and `Output` if a prefix of the answer was.
 pub fn new_run<T: AsStr, S: Alter + Drop, K: Keeper, D: Databases<S>, W: Write, E: Write>(
     alloc: Global,
     words: &[T],
@@ -41,7 +41,7 @@ pub fn new_run<T: AsStr, S: Alter + Drop, K: Keeper, D: Databases<S>, W: Write, 
         (E.contents errors.old) (E.contents errors.new) }
     ensures faults { IfErr result.status (λ fault. (fault ≢ IoFault.Input) × (fault ≢ IoFault.Endless)) }
 
-    // Help and the version go to the output, and what is wrong with the words to the errors.
+    // Help and the version go to the output, and a fault of the words to the errors.
     ensures help { AskForHelp (map T.text words.now) → Keeps (E.contents errors.old) (E.contents errors.new) }
     ensures wrong { ((asked : NewAsked) → AsksNew (map T.text words.now) asked → ⊥)
         → AskForNoHelp (map T.text words.now) → Keeps (W.contents writer.old) (W.contents writer.new) }
@@ -59,7 +59,7 @@ pub fn new_run<T: AsStr, S: Alter + Drop, K: Keeper, D: Databases<S>, W: Write, 
     }
 }
 
-/// Makes a register at a path, and returns the line that says so.
+/// Makes a register at a path, and returns the line that says so and the connection, if there is one.
 fn make_at<S: Alter + Drop, K: Keeper, D: Databases<S>>(
     alloc: Global,
     databases: &mut D,
@@ -100,7 +100,7 @@ fn told(made: Result<(), Refusal>, text: String) -> Result<String, Refusal>
     }
 }
 
-/// Makes a register in the database of a connection, which is given back.
+/// Makes a register in the database of a connection, and returns the connection.
 fn make<S: Alter + Drop, K: Keeper>(
     alloc: Global,
     conn: Connection<S>,

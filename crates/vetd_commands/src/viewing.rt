@@ -1,4 +1,4 @@
-//! Something is shown of a register in a database, by the words of a command.
+//! The commands that print a text of a register in a database.
 ghost use Rattle.std.specs.Prelude.{◌≡◌, ◌≢◌, IfErr, IfOk, None, false, map, string_bytes};
 ghost use Rattle.std.specs.Io.KnownBytes.{Keeps};
 ghost use Rattle.vetd_words.specs.Answer.{IsWritten, answer_for};
@@ -20,8 +20,8 @@ use vetd_words::answer::{explain, report};
 use vetd_words::view::View;
 use vetd_words::view_words::{ViewCommand, ViewWords, view_words};
 
-/// Answers the words of a command that shows something of a register, which come without the program's own name. The
-/// text goes to `writer`, as help does, and a refusal or clap's error to `errors`.
+/// Answers the words of a command that prints a text of a register, which come without the program's own name. The text
+/// goes to `writer`, as do help and the version, and a refusal or clap's error to `errors`.
 ///
 /// **The printed text shows the one register whose rows are in the tables of the database at the path. Tables of the
 /// first version are taken over; otherwise nothing is written there.** Refusals that the user reads: `NotARegister` if
@@ -44,7 +44,7 @@ pub fn view_run<T: AsStr, S: Alter + Drop, K: Keeper, D: Databases<S>, W: Write,
         (E.contents errors.old) (E.contents errors.new) }
     ensures faults { IfErr result.status (λ fault. (fault ≢ IoFault.Input) × (fault ≢ IoFault.Endless)) }
 
-    // Help and the version go to the output, and what is wrong with the words to the errors.
+    // Help and the version go to the output, and a fault of the words to the errors.
     ensures help { AskForHelp (map T.text words.now) → Keeps (E.contents errors.old) (E.contents errors.new) }
     ensures wrong { view_given command (map T.text words.now) ≡ None
         → AskForNoHelp (map T.text words.now) → Keeps (W.contents writer.old) (W.contents writer.new) }
@@ -62,7 +62,7 @@ pub fn view_run<T: AsStr, S: Alter + Drop, K: Keeper, D: Databases<S>, W: Write,
     }
 }
 
-/// Shows something of the register at a path.
+/// The text of the register at a path, and the connection, if there is one.
 fn view_at<S: Alter + Drop, K: Keeper, D: Databases<S>>(
     alloc: Global,
     databases: &mut D,
@@ -80,7 +80,7 @@ fn view_at<S: Alter + Drop, K: Keeper, D: Databases<S>>(
     }
 }
 
-/// Shows something of the register in the tables of a connection, which is given back.
+/// The text of the register in the tables of a connection, and the connection.
 fn shown<S: Alter + Drop, K: Keeper>(
     alloc: Global,
     conn: Connection<S>,
