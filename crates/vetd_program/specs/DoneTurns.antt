@@ -29,8 +29,9 @@ AreDone s (t ∷ turns) (command ∷ commands) (outcome ∷ outcomes) last =
     × ((mid : State) × (IsDone s command mid × AreDone mid turns commands outcomes last))))
 AreDone s (t ∷ turns) commands outcomes last = ⊥
 
--- The headline over clients, of which each turn says the reply and that what is held stays: the last state is that of
--- the machine over the commands alone that were done, with the same outcomes, and it has its classes.
+-- The headline over clients: the last state is that of the machine over only the commands that were done, with the same
+-- outcomes, and it has its classes. Each turn already says its reply, and that a request for what is held changes
+-- nothing.
 pub record HasHeadline (s : State) (turns : List Turn) (last : State) : Type 0 where
   pub done : List Command
   pub outcomes : List (Told Outcome)
@@ -48,6 +49,6 @@ IsAskedAmong (t ∷ turns) command = IsAskedIn t command ⊎ IsAskedAmong turns 
 abbrev pub LeavesAmong : List Turn → State → sqlite.State → Type 0
 LeavesAmong turns s c = (command : Command) × (IsAskedAmong turns command × LeavesEither c s command)
 
--- this is so where the store was shut meanwhile
+-- this is so if the store was shut in the meantime
 abbrev pub LeavesWhereShut : Bool → Bool → sqlite.State → State → List Turn → Type 0
 LeavesWhereShut was shut c s turns = was ≡ false → IsTrue shut → HasCleanDisk c → LeavesAmong turns s c

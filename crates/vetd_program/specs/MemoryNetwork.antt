@@ -11,23 +11,24 @@ abbrev pub on_given_day : {R W : Type 0} → Option DayValue → Arrival R W →
 on_given_day (Some day) (Client was) = Client (record { day = day; reader = was.reader; writer = was.writer })
 on_given_day _ arrival = arrival
 
--- the next that is at hand comes; and if nothing is left, the loss of what listened
+-- the next arrival that is held comes; if none is left, the loss of the listener
 abbrev pub ComesNext : {R W : Type 0} → List (Arrival R W) → Option DayValue → Arrival R W → List (Arrival R W) → Type 0
 ComesNext [] told arrival rest = (arrival ≡ Lost) × (rest ≡ [])
 ComesNext (next ∷ later) told arrival rest = (arrival ≡ on_given_day told next) × (rest ≡ later)
 
--- what listens has the clients that are at hand, if there are any; none are left to listen for
+-- a listener has the clients that the network holds, and then the network holds none; if it held none, nobody can
+-- listen
 abbrev pub ListensOnce : {R W : Type 0} → MemoryNetwork R W → Option (MemoryListener R W) → MemoryNetwork R W → Type 0
 ListensOnce network None network' = (network.coming ≡ None) × (network' ≡ network)
 ListensOnce network (Some listener) network' =
     (network.coming ≡ Some listener.coming) × ((listener.released ≡ network.released) × (network'.coming ≡ None))
 
--- a client was put behind those that were released, if there was room for it and each of these
+-- a client was added after those that were released, if there was room for it and each of these
 abbrev pub IsReleased : {A : Type 0} → Option (List A) → A → Option (List A) → Type 0
 IsReleased was client None = ⊤
 IsReleased None client (Some clients) = ⊥
 IsReleased (Some was) client (Some clients) = clients ≡ was ++ client ∷ []
 
--- the clients that a listener released are those of its network
+-- the network has the clients that its listener released
 abbrev pub IsClosed : {R W : Type 0} → MemoryNetwork R W → MemoryListener R W → MemoryNetwork R W → Type 0
 IsClosed network listener network' = (network'.coming ≡ network.coming) × (network'.released ≡ listener.released)

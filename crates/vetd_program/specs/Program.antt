@@ -1,4 +1,4 @@
--- What the program answers, command by command (ours).
+-- The answer of the program, command by command (ours).
 use Rattle.std.specs.Prelude.{◌≡◌, List, Option, None, codes, if◌then◌else◌, ⊤}
 use Rattle.clap.specs.Walk.{Text}
 use Rattle.sqlite.specs.Held.{Held}
@@ -21,7 +21,7 @@ use Rattle.vetd_words.specs.Words.{begins_with}
 use Rattle.vetd_words.specs.declared.asked.CommandKind.TheVariants.{Class, Read}
 use Rattle.vetd_words.specs.declared.view_words.ViewCommand.TheVariants.{Export, Report}
 
--- the command as which words are taken, by the first of them
+-- the command that words are to be, by the first of them
 abbrev pub command_of : List Text → ProgramCommand
 command_of words =
     if begins_with (codes "read") words then File Read
@@ -41,7 +41,7 @@ module _ {S : Type 0} (g : Ghosts S) (Gives Finds : Giving S) {N L R W : Type 0}
   AnswersAs (Show command) Holds = AnswersView g Finds (view_given command words) left Holds
   AnswersAs Serve Holds = AnswersServe g Finds clients network network' words left Holds
 
-  -- what a run without an answer says of the connection that is left
+  -- after a run without an answer, this holds of the connection that is left
   abbrev pub IsUntoldAs : ProgramCommand → Type 0
   IsUntoldAs (File kind) = left ≡ None
   IsUntoldAs New = IsUnmade g Gives words left
@@ -49,7 +49,7 @@ module _ {S : Type 0} (g : Ghosts S) (Gives Finds : Giving S) {N L R W : Type 0}
   IsUntoldAs (Show command) = IsUntold g Finds (view_given command words) left
   IsUntoldAs Serve = (network' ≡ network) × IsUnserved g Finds words left
 
--- the words are none of the command
+-- the words are not such a command
 abbrev pub AsksNothing : ProgramCommand → List Text → Type 0
 AsksNothing (File kind) words = asked_by kind words ≡ None
 AsksNothing New words = (asked : NewAsked) → AsksNew words asked → ⊥
@@ -57,7 +57,7 @@ AsksNothing Apply words = apply_given words ≡ None
 AsksNothing (Show command) words = view_given command words ≡ None
 AsksNothing Serve words = (asked : ServeAsked) → AsksServe words asked → ⊥
 
--- nothing of the input is asked for
+-- the words ask for none of the input
 abbrev pub AsksNoInput : ProgramCommand → List Text → Type 0
 AsksNoInput (File kind) words = asked_by kind words ≡ None
 AsksNoInput New words = ⊤

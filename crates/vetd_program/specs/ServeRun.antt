@@ -1,4 +1,4 @@
--- What serving a register comes to, and is answered (ours).
+-- The clients that are served from a register, and the answer (ours).
 use Rattle.std.specs.Prelude.{◌≡◌, ◌⊎◌, List, Bool, false, Option, Some, None, Ok, Err, ⊤}
 use Rattle.clap.specs.Walk.{Text}
 use Rattle.sqlite.specs.Held.{Held, state}
@@ -22,22 +22,22 @@ use Rattle.vetd_program.specs.declared.serve_run.Service.{Service}
 use Rattle.vetd_words.specs.Answer.{Answer, Ending, Explains, Refuses, Serves}
 use Rattle.vetd_words.specs.ServeAsked.{AsksServe, ServeAsked}
 
--- the day that a text gives, if there is one, or that it is none
+-- the day that a text gives, if there is a text; or BadDay if the text is not a day
 abbrev pub day_told : Option Text → Told (Option DayValue)
 day_told None = Ok None
 day_told (Some text) = found_or BadDay (read_day text) >>= λ day. Ok (Some day)
 
--- what is asked for, on this day
+-- the service that is asked for, on this day
 abbrev pub on_day : ServeAsked → Option DayValue → Service
 on_day asked day = record { port = asked.port; connections = asked.connections; day = day }
 
--- this holds of an answer of which that holds
+-- both statements hold of some answer
 abbrev pub Answered : (Answer → Type 0) → (Answer → Type 0) → Type 0
 Answered Is Holds = (answer : Answer) × (Is answer × Holds answer)
 
 module _ {N L R W : Type 0} (clients : Clients N L R W) (network network' : N) (service : Service) where
   -- Clients came to a port and were served from a state, one after the other as they came, and this was printed. The
-  -- headline holds of them, and this of what a crash leaves.
+  -- headline holds of them, and so does the statement about what a crash leaves (Leaves).
   pub record IsSitting (Leaves : List Turn → Type 0) (register : State) (text : Text) (ending : Ending) (end : State)
       : Type 0 where
     pub came : List (Arrival R W)
@@ -53,7 +53,7 @@ module _ {N L R W : Type 0} (clients : Clients N L R W) (network network' : N) (
   IsSittingOf Leaves register end (Serves text ending) = IsSitting Leaves register text ending end
   IsSittingOf Leaves register end _ = ⊥
 
-  -- the answer where the register is a new one in memory
+  -- the answer if the register is a new one in memory
   abbrev pub IsServeInMemory : Answer → Type 0
   IsServeInMemory (Serves text ending) = (end : State) × IsSitting (λ turns. ⊤) (start MOST_MOVES) text ending end
   IsServeInMemory (Refuses refusal) = IsOfStore refusal × (network' ≡ network)
@@ -83,7 +83,7 @@ module _ {S : Type 0} (g : Ghosts S) {N L R W : Type 0} (clients : Clients N L R
 
 module _ {S : Type 0} (g : Ghosts S) (Finds : Giving S) {N L R W : Type 0} (clients : Clients N L R W)
     (network network' : N) where
-  -- the answer where the register is in the database at a path, and the connection that is left
+  -- the answer if the register is in the database at a path, and the connection that is left
   abbrev pub IsServeAt : Service → Text → Answer → Option (Held S) → Type 0
   IsServeAt service path answer (Some after) =
       (before : Held S) × (Finds path (Ok before)
@@ -96,12 +96,12 @@ module _ {S : Type 0} (g : Ghosts S) (Finds : Giving S) {N L R W : Type 0} (clie
   IsServeWhere service (Some path) answer left = IsServeAt service path answer left
   IsServeWhere service None answer left = IsServeInMemory clients network network' service answer × (left ≡ None)
 
-  -- the same where the day is still a text: a bad one goes before all else
+  -- the same if the day is still a text: a bad one is refused before everything else
   abbrev pub IsServeOn : ServeAsked → Told (Option DayValue) → Answer → Option (Held S) → Type 0
   IsServeOn asked (Ok day) answer left = IsServeWhere (on_day asked day) asked.path answer left
   IsServeOn asked (Err refusal) answer left = (answer ≡ Refuses refusal) × ((left ≡ None) × (network' ≡ network))
 
-  -- the same of words: they are explained where they are no serve command
+  -- the same for words: they are explained if they are not a serve command
   abbrev pub IsAnswerToServe : List Text → Answer → Option (Held S) → Type 0
   IsAnswerToServe words Explains left =
       ((asked : ServeAsked) → AsksServe words asked → ⊥) × ((left ≡ None) × (network' ≡ network))
@@ -127,8 +127,8 @@ module _ {S : Type 0} (g : Ghosts S) (Finds : Giving S) where
   IsUnservedAt (Some path) (Some after) =
       (before : Held S) × (Finds path (Ok before) × IsUnservedOver g before after)
 
-  -- What a run without an answer says of the connection that is left: nobody was served over it. Of a database without
-  -- one it says nothing.
+  -- After a run without an answer, nobody was served over a connection that is left. Nothing is said of a database if
+  -- no connection is left.
   abbrev pub IsUnserved : List Text → Option (Held S) → Type 0
   IsUnserved words None = ⊤
   IsUnserved words (Some after) =

@@ -1,4 +1,4 @@
--- Clients that are served one after the other as they come, and what is printed of them (ours).
+-- Clients that are served one after the other as they come, and the lines that are printed (ours).
 use Rattle.std.specs.Prelude.{◌≡◌, ◌≤◌, ℕ, ◌+◌, Bool, true, false, List, [], ◌∷◌, ◌++◌, Option, Some, None, IfSome}
 use Rattle.std.specs.Prelude.{Result, Ok, Err, codes, length, map, ⊤}
 use Rattle.std.specs.Fmt.{decimal}
@@ -23,14 +23,13 @@ listening_line port = codes "listening on 127.0.0.1:" ++ (decimal port ++ codes 
 abbrev pub served_line : ℕ → Text
 served_line served = codes "served " ++ (decimal served ++ codes "\n")
 
--- how many of what came of connections are whole replies
+-- how many of the results of connections are whole replies
 abbrev pub whole : List (Result Served IoFault) → ℕ
 whole [] = 0
 whole (Ok served ∷ rest) = 1 + whole rest
 whole (Err fault ∷ rest) = whole rest
 
--- a connection that was served: its day, what was seen of its reader and its writer before and after, and what came of
--- it
+-- a connection that was served: its day, what was seen of its reader and its writer before and after, and its result
 pub record Turn : Type 0 where
   pub day : DayValue
   pub seen : Heard
@@ -43,18 +42,18 @@ pub record Turn : Type 0 where
 abbrev pub replied : List Turn → ℕ
 replied turns = whole (map (λ (t : Turn). t.answer) turns)
 
--- what is printed at a port by which clients were served, by how that ended
+-- the text that is printed if clients were served at a port, by how that ended
 abbrev pub printed_by : ℕ → List Turn → Ending → Text
 printed_by port turns AllCame = listening_line port ++ served_line (replied turns)
 printed_by port turns NetworkLost = listening_line port
 printed_by port turns NoPort = []
 printed_by port turns Unheard = listening_line port
 
--- a connection was served in a state, which it left for another; a request that asks for what is held leaves it
+-- a connection was served in a state, which it left for another; a request for what is held leaves it as it is
 abbrev pub IsServedTurn : State → Turn → State → Type 0
 IsServedTurn s t end = IsServedWithRepeats t.day t.seen t.seen' t.out t.out' s t.answer end
 
--- what listened was lost
+-- the listener was lost
 abbrev pub is_lost : {R W : Type 0} → List (Arrival R W) → Bool
 is_lost [] = false
 is_lost (Lost ∷ rest) = true
@@ -65,10 +64,10 @@ abbrev pub IsOnDay : {R W : Type 0} → Option DayValue → Arrival R W → Type
 IsOnDay told (Client connection) = IfSome told (λ day. connection.day ≡ day)
 IsOnDay told _ = ⊤
 
--- What is known of a network and its clients: what listening at a port may give, if anything; what may come to a
--- listener, by the day that is given, if one is; what a listener may be once a client is released, and the network
--- once a listener is closed; and, where these are known, the bytes that a client's reader has left and those that its
--- writer holds.
+-- Everything that is known of a network and its clients: the results that listening at a port may give; the arrivals
+-- that may come to a listener, given the day, if there is one; the listeners that may be left once a client is
+-- released, and the networks once a listener is closed; and, if these are known, the bytes that a client's reader has
+-- left and those that its writer holds.
 pub record Clients (N L R W : Type 0) : Type 1 where
   pub may_listen : N → ℕ → Option L → N → Type 0
   pub may_come : L → Option DayValue → Arrival R W → L → Type 0
@@ -104,13 +103,13 @@ module _ {N L R W : Type 0} (clients : Clients N L R W) where
     pub released : clients.may_release l left l'
 
   module _ (told : Option DayValue) where
-    -- this came to a listener, on the day that is given
+    -- this arrival came to a listener, on the day that is given
     abbrev pub Comes : L → Arrival R W → L → Type 0
     Comes l arrival l' = clients.may_come l told arrival l' × IsOnDay told arrival
 
-    -- The clients among what came to a listener were served one after the other: each as it came, in the state that
-    -- the one before it left; and the state and the listener that the last left. Nobody is waited for once what
-    -- listened is lost.
+    -- The clients among the arrivals at a listener were served one after the other, each as it came and in the state
+    -- that the one before it left. This is the state, and the listener, that the last left. Nobody is awaited once the
+    -- listener is lost.
     abbrev pub ServesEach : State → L → List (Arrival R W) → List Turn → State → L → Type 0
     ServesEach s l [] [] end l' = (end ≡ s) × (l' ≡ l)
     ServesEach s l (Failed ∷ rest) turns end l' =
@@ -121,8 +120,8 @@ module _ {N L R W : Type 0} (clients : Clients N L R W) where
         × (IsServedClient s held came t mid next × ServesEach mid next rest turns end l'))))
     ServesEach s l _ _ end l' = ⊥
 
-    -- Of so many clients that were awaited at a listener, some came and were served one after the other, of whatever
-    -- kind their readers and writers are. These are all, unless what listened was lost.
+    -- At most this many arrivals came to a listener, and the clients among them were served one after the other,
+    -- whatever the kinds of their readers and writers. Exactly this many came, unless the listener was lost.
     pub record AreServed (most : ℕ) (s : State) (l : L) (lost : Bool) (end : State) (l' : L) : Type 0 where
       pub came : List (Arrival R W)
       pub turns : List Turn
@@ -141,8 +140,8 @@ module _ {N L R W : Type 0} (clients : Clients N L R W) where
       pub one_by_one : ServesEach s listener came turns end last
       pub closes : clients.may_close listening last network'
 
-    -- How waiting for so many clients at a port ended: so many came; the last that came is the loss of what listened;
-    -- there was no port; or the first line couldn't be printed, so that nobody was awaited.
+    -- How waiting for this many clients at a port ended: this many arrivals came; the last arrival is the loss of the
+    -- listener; the port was not available; or the first line couldn't be printed, so that nobody was awaited.
     abbrev pub HasEnded : ℕ → ℕ → N → State → List (Arrival R W) → List Turn → State → N → Ending → Type 0
     HasEnded port most network s came turns end network' AllCame =
         AreServedAt port network s came turns end network' × ((length came ≡ most) × (is_lost came ≡ false))

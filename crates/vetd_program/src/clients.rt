@@ -1,4 +1,4 @@
-//! Clients that connect: they come from a network, and are served one after the other.
+//! Clients, which come from a network and are served one after the other.
 
 pub mod arrival;
 pub mod memory_network;

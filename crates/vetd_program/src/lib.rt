@@ -1,12 +1,11 @@
-//! What the program does with the words of its command line: it picks the command and answers it, and serves clients.
+//! The program: it picks the command that the words of its command line name, answers it, and serves clients.
 //!
-//! **The words and the input alone decide what is written and the status. With `--db` the database does so too, and
-//! with `serve` the clients that come. A run that ends with a fault wrote nothing, or, where a write failed, the front
-//! of the answer.**
+//! **The output and the status depend only on the words and the input; with `--db` on the database too, and with
+//! `serve` on the clients that come. A run that ends with a fault wrote nothing or, if a write failed, a prefix of the
+//! answer.**
 //!
 //! Scope of this crate: the program, over any databases and any network. `main`, the files of this machine and its
-//! network are those of `vetd`. `vetd_words` says what words ask for, and `vetd_commands` what a command does with a
-//! database.
+//! network belong to `vetd`. `vetd_words` parses the words, and `vetd_commands` has the commands on a database.
 //!
 //! For example, the words `serve --port 8080 --connections 1` print `listening on 127.0.0.1:8080`, and `served 1` once
 //! a client has its whole reply.

@@ -29,8 +29,8 @@ use vetd_words::run::command_run;
 use vetd_words::view_words::ViewCommand;
 use vetd_words::words::begin_with;
 
-/// A command of the program, as which the words of a whole command line are taken. A further command is a row here, or
-/// in the table of its sort; a row in `of_words` and `run_as`; and the function that answers it.
+/// A command of the program that the words of a whole command line are to be. A new one needs a row here, or in the
+/// table of its sort; a row in `of_words` and `run_as`; and the function that answers it.
 #[derive(Clone, Copy)]
 pub enum ProgramCommand {
     File(CommandKind),
@@ -41,7 +41,7 @@ pub enum ProgramCommand {
 }
 
 impl ProgramCommand {
-    /// The command as which words are taken, by the first of them. Words that begin with none are taken as `class`,
+    /// The command that words are to be, by the first of them. Words that begin with no command are taken as `class`,
     /// so that they are explained.
     pub fn of_words<S: AsStr>(words: &[S]) -> ProgramCommand
         ensures { result ≡ command_of (map S.text words.now) }
@@ -64,13 +64,14 @@ impl ProgramCommand {
     }
 }
 
-/// Answers the words of a command, which come without the program's own name, by what the reader gives and what is in
-/// the database at their path. The command is the one that the first word names. The answer goes to `writer`, as
-/// help and the version do, and a refusal or clap's error to `errors`.
+/// Answers the words of a command, which come without the program's own name, from the input that the reader gives and
+/// the database at their path. The command is the one that the first word names. The answer goes to `writer`, as do
+/// help and the version, and a refusal or clap's error to `errors`.
 ///
-/// **A status comes with the whole answer to the words, the input and the tables. A run that ends with a fault wrote
-/// nothing, or, where a write failed, the front of that answer. With `serve` the clients of `network` decide the answer
-/// too.** Faults: `Input`, `Endless` and `NoMemory`, where nothing was written, and `Output`.
+/// **If a status is returned, the whole answer to the words, the input and the tables was written. A run that ends with
+/// a fault wrote nothing or, if a write failed, a prefix of that answer. With `serve` the answer depends on the clients
+/// of `network` too.** Faults: `Input`, `Endless` and `NoMemory` if nothing was printed, and `Output` if a prefix of
+/// the answer was.
 pub fn program_run<
     T: AsStr,
     S: Alter + Drop,
@@ -103,7 +104,8 @@ pub fn program_run<
         result.status (W.contents writer.old) (W.contents writer.new)
         (E.contents errors.old) (E.contents errors.new) }
 
-    // No more is read, and nothing where nothing of the input is asked for. `Endless` comes when the reads are spent.
+    // No more is read, and nothing if the words ask for none of the input. `Endless` is returned only once all reads
+    // are made.
     ensures bounded { TakesAtMost (MOST_INPUT_BYTES + 1)
         (heard R.remaining reader.old) (heard R.remaining reader.new) }
     ensures unread { AsksNoInput (command_of (map T.text words.now)) (map T.text words.now) → reader.new ≡ reader.old }
@@ -114,7 +116,7 @@ pub fn program_run<
     ensures unopened { (kind : CommandKindValue) → command_of (map T.text words.now) ≡ ProgramCommand.File kind
         → databases.new ≡ databases.old }
 
-    // Help and the version go to the output, and what is wrong with the words to the errors.
+    // Help and the version go to the output, and a fault of the words to the errors.
     ensures help { AskForHelp (map T.text words.now) → Keeps (E.contents errors.old) (E.contents errors.new) }
     ensures wrong { AsksNothing (command_of (map T.text words.now)) (map T.text words.now)
         → AskForNoHelp (map T.text words.now) → Keeps (W.contents writer.old) (W.contents writer.new) }
@@ -159,7 +161,8 @@ fn run_as<
         result.status (W.contents writer.old) (W.contents writer.new)
         (E.contents errors.old) (E.contents errors.new) }
 
-    // No more is read, and nothing where nothing of the input is asked for. `Endless` comes when the reads are spent.
+    // No more is read, and nothing if the words ask for none of the input. `Endless` is returned only once all reads
+    // are made.
     ensures bounded { TakesAtMost (MOST_INPUT_BYTES + 1)
         (heard R.remaining reader.old) (heard R.remaining reader.new) }
     ensures unread { AsksNoInput command (map T.text words.now) → reader.new ≡ reader.old }
@@ -170,7 +173,7 @@ fn run_as<
     ensures unopened { (kind : CommandKindValue) → command ≡ ProgramCommand.File kind
         → databases.new ≡ databases.old }
 
-    // Help and the version go to the output, and what is wrong with the words to the errors.
+    // Help and the version go to the output, and a fault of the words to the errors.
     ensures help { AskForHelp (map T.text words.now) → Keeps (E.contents errors.old) (E.contents errors.new) }
     ensures wrong { AsksNothing command (map T.text words.now)
         → AskForNoHelp (map T.text words.now) → Keeps (W.contents writer.old) (W.contents writer.new) }

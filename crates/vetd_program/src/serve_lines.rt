@@ -1,14 +1,15 @@
 //! The lines that a serve command prints.
 //!
-//! The last is printed once clients were served, when it is too late to run out of memory. So room for both is taken
-//! first.
+//! The last one is printed after clients were served, when it is too late to run out of memory. So room for both is
+//! taken first.
 ghost use Rattle.std.specs.Prelude.{◌≡◌, ◌≤◌, [], IfOk, string_bytes, string_capacity};
 ghost use Rattle.vetd_program.specs.Serving.{listening_line, served_line};
 
 use itoa::Buffer;
 use std::alloc::{AllocError, Global};
 
-/// The most bytes of the line that says how many clients were served: its words, and a number of at most 10 digits.
+/// The greatest number of bytes in the line that says how many clients were served: its words, and a number of at most
+/// 10 digits.
 const MOST_SERVED_BYTES: usize = 18;
 
 /// The line that says at which port clients may connect, and room for the one that says how many were served.
@@ -27,7 +28,7 @@ impl Drop for ServeLines {
 }
 
 impl ServeLines {
-    /// The lines of a port.
+    /// The lines of a port. Fails only if memory runs out.
     pub fn of_port(alloc: Global, port: u16) -> Result<ServeLines, AllocError>
         ensures listening { IfOk result (λ lines. string_bytes lines.listening ≡ listening_line port) }
         ensures empty { IfOk result (λ lines. string_bytes lines.room ≡ []) }

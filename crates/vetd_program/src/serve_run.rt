@@ -1,4 +1,4 @@
-//! A register is served over HTTP, by the words of a serve command.
+//! The serve command, which serves a register over HTTP.
 ghost use Rattle.std.specs.Prelude.{◌≡◌, ◌≢◌, ◌≤◌, IfErr, IfOk, MatchResult, Ok, OnErr, OnOk, Some, false, map};
 ghost use Rattle.std.specs.Io.KnownBytes.{Appends, Keeps};
 ghost use Rattle.sqlite.specs.Held.{state};
@@ -41,10 +41,10 @@ use vetd_commands::databases::{DatabaseRun, Databases};
 use vetd_words::answer::{PRINTED, REFUSED, explain, report};
 use vetd_words::serve_words::{ServeWords, serve_words};
 
-/// What is printed if the port can't be had, or what listened is lost.
+/// The line that is printed if the port is not available, or the listener is lost.
 const NETWORK_LINE: &str = "fault: network\n";
 
-/// Where clients connect, how many are awaited, and the day on which they are served, if one is given.
+/// The port at which clients connect, how many are awaited, and the day on which they are served, if one is given.
 #[derive(Clone, Copy)]
 pub struct Service {
     pub port: u16,
@@ -53,15 +53,16 @@ pub struct Service {
 }
 
 /// Answers the words of a serve command, which come without the program's own name: serves the register in the database
-/// at their path, or a new one in memory, to clients that connect to a port of the network. The line of the port goes
-/// to `writer` once they may, and that of how many had their whole reply at the end; a refusal, a lost network or
-/// clap's text goes to `errors`.
+/// at their path, or a new one in memory, to clients that connect to a port of the network. The line with the port goes
+/// to `writer` once they may connect, and the line with how many had their whole reply at the end. Help and the version
+/// go to `writer` too; a refusal, a lost network or clap's error goes to `errors`.
 ///
 /// **The tables have the rows of the state that the last client left, and each client was a step of the machine, or
-/// changed nothing.** Refused, in a line to its user, the first that holds: `BadDay` of the text of the day, before
-/// anything is opened or bound; `NotARegister` where there is no file at the path or the tables have the rows of no
-/// register, and `StoreRefused` where no database can be opened or read there. Faults: `NoMemory`, where nothing was
-/// written and nobody served, and `Output`, where the front of the answer was.
+/// changed nothing.** Refusals that the user reads, the first that applies: `BadDay` if the text of the day is not a
+/// day, before anything is opened or bound; `NotARegister` if there is no file at the path, if the tables have the rows
+/// of no register, or if they are of the first version and a name that only the second has is taken, and `StoreRefused`
+/// if no database can be opened or read there. Faults: `NoMemory` if nothing was printed and nobody was served, and
+/// `Output` if a prefix of the answer was printed.
 pub fn serve_run<
     T: AsStr,
     S: Alter + Drop,
@@ -89,7 +90,7 @@ pub fn serve_run<
         (E.contents errors.old) (E.contents errors.new) }
     ensures faults { IfErr result.status (λ fault. (fault ≢ IoFault.Input) × (fault ≢ IoFault.Endless)) }
 
-    // Help and the version go to the output, and what is wrong with the words to the errors.
+    // Help and the version go to the output, and a fault of the words to the errors.
     ensures help { AskForHelp (map T.text words.now) → Keeps (E.contents errors.old) (E.contents errors.new) }
     ensures wrong { ((asked : ServeAsked) → AsksServe (map T.text words.now) asked → ⊥)
         → AskForNoHelp (map T.text words.now) → Keeps (W.contents writer.old) (W.contents writer.new) }
@@ -103,7 +104,7 @@ pub fn serve_run<
     }
 }
 
-/// Serves as it is asked, once the day is judged.
+/// Serves as the words ask, if the text of the day is a day.
 fn serve_on<S: Alter + Drop, K: Keeper, D: Databases<S>, N: Network, W: Write, E: Write>(
     alloc: Global,
     asked: ServeWords<'_>,
@@ -142,7 +143,7 @@ fn serve_on<S: Alter + Drop, K: Keeper, D: Databases<S>, N: Network, W: Write, E
     }
 }
 
-/// What is asked for, with its day read. Refused: `BadDay`.
+/// The service that is asked for, with its day parsed. Refused: `BadDay`.
 fn service_of(asked: ServeWords<'_>) -> Result<Service, Refusal>
     ensures day { MatchResult result (λ service. day_told (serve_asked asked.entry).day ≡ Ok service.day)
         (λ e. day_told (serve_asked asked.entry).day ≡ Err e) }
@@ -196,7 +197,7 @@ fn serve_file<S: Alter + Drop, K: Keeper, D: Databases<S>, N: Network, W: Write,
     }
 }
 
-/// Serves the register in the tables of a connection, which is given back.
+/// Serves the register in the tables of a connection, and returns the connection.
 fn serve_opened<S: Alter + Drop, K: Keeper, N: Network, W: Write, E: Write>(
     alloc: Global,
     conn: Connection<S>,
@@ -252,7 +253,7 @@ fn serve_memory<K: Keeper, N: Network, W: Write, E: Write>(
     }
 }
 
-/// A new register in memory.
+/// A new register in memory, which may record 1,000,000 moves. Refused: `NoMemory`, `StoreRefused`.
 fn new_in_memory<K: Keeper>(alloc: Global) -> Result<Store<MemoryFiles, K>, Refusal>
     ensures start { IfOk result (λ store. store.register.state ≡ start MOST_MOVES) }
     ensures refused { IfErr result IsOfStore }
@@ -267,7 +268,7 @@ fn new_in_memory<K: Keeper>(alloc: Global) -> Result<Store<MemoryFiles, K>, Refu
     }
 }
 
-/// Serves an open register at a port, and stops listening there.
+/// Serves an open register at a port, and then stops listening there.
 fn serve_at_port<S: Alter + Drop, K: Keeper, N: Network, W: Write, E: Write>(
     alloc: Global,
     store: &mut Store<S, K>,
@@ -319,7 +320,7 @@ fn headline_holds<S: Alter, K: Keeper>(store: &Store<S, K>)
     classes_are_of_chains(store.register());
 }
 
-/// Prints that the network is lost. Refused: `Output`.
+/// Prints that the network is lost. Fails with `Output` if the write fails.
 fn tell_network<E: Write>(errors: &mut E) -> Result<u8, IoFault>
     ensures status { IfOk result (λ status. status ≡ REFUSED) }
     ensures told { OnOk result (Appends (E.contents errors.old) (E.contents errors.new) network_line) }

@@ -11,13 +11,13 @@ use std::io::Read;
 use vet_base::day::Day;
 use vet_http::serve::Connection;
 
-/// Clients that are at hand. At the first port at which somebody listens they come in their order, and after the last
-/// of them what listens is lost. Nobody can listen a second time. Once what listens is closed, those that it released
-/// are here.
+/// A network that holds its clients. They come in their order at the first port at which somebody listens, and after
+/// the last of them the listener is lost. Nobody can listen a second time. Once the listener is closed, the network has
+/// the clients that it released.
 #[derive(Drop)]
 pub struct MemoryNetwork<R, W> {
     coming: Option<VecDeque<Arrival<R, W>>>,
-    /// The clients that were released, in their order. `None` where there was no room for one of them.
+    /// The clients that were released, in their order. `None` if there was no room for one of them.
     released: Option<Vec<Connection<R, W>>>,
 }
 
@@ -40,7 +40,7 @@ impl<R: Drop, W: Drop> MemoryNetwork<R, W> {
         }
     }
 
-    /// The clients that were released, in their order. `None` where there was no room for one of them.
+    /// The clients that were released, in their order. `None` if there was no room for one of them.
     pub fn into_released(self) -> Option<Vec<Connection<R, W>>>
         ensures { result ≡ self.released }
     {

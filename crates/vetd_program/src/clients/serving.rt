@@ -1,7 +1,8 @@
 //! Connections are served one after the other, as they come.
 //!
-//! **Each that is replied to is a step of the machine, as where all are at hand at once. What comes of one never keeps
-//! the next from being served.**
+//! **Each client with a reply is answered in the state that the one before it left: if it asks for a command that is
+//! done, that is a step of the machine, and otherwise the state stays. No connection keeps the next from being served,
+//! however it ends.**
 ghost use Rattle.std.specs.Prelude.{◌≡◌, ◌≤◌, [], ◌∷◌, IfSome, IsTrue, List, is_none};
 ghost use Rattle.std.specs.Io.KnownBytes.{Keeps};
 ghost use Rattle.sqlite.specs.Held.{state};
@@ -27,15 +28,15 @@ use vet_requests::io_fault::IoFault;
 use vet_requests::status::Status;
 use vet_store::store::Store;
 
-/// What came of serving: how many clients had their whole reply, and whether what listened was lost before the end.
+/// The result of serving: how many clients had their whole reply, and whether the listener was lost before the end.
 #[derive(Clone, Copy)]
 pub struct ServeSummary {
     pub served: u32,
     pub lost: bool,
 }
 
-/// Serves the clients that connect to a listener, one after the other as they come, whatever becomes of each, until as
-/// many came as are awaited or what listened is lost. Each is released to the listener before the next is waited for.
+/// Serves the clients that connect to a listener, one after the other as they come, however each connection ends, until
+/// as many came as are awaited or the listener is lost. Each is released to the listener before the next is waited for.
 pub fn serve_each<S: Alter, K: Keeper, N: Network>(
     alloc: Global,
     room: &mut ServeRoom,
@@ -68,8 +69,8 @@ pub fn serve_each<S: Alter, K: Keeper, N: Network>(
     }
 }
 
-/// Serves what comes next to a listener, if it is a client: 1 where it had its whole reply, else 0, and `None` if what
-/// listened is lost.
+/// Serves the next arrival at a listener, if it is a client. Returns 1 if a client had its whole reply, `None` if the
+/// listener is lost, and otherwise 0.
 fn serve_next<S: Alter, K: Keeper, N: Network>(
     alloc: Global,
     room: &mut ServeRoom,
@@ -99,7 +100,7 @@ fn serve_next<S: Alter, K: Keeper, N: Network>(
     }
 }
 
-/// Serves a client, and releases it to the listener: 1 where it had its whole reply, else 0.
+/// Serves a client, and releases it to the listener. Returns 1 if it had its whole reply, otherwise 0.
 fn serve_client<S: Alter, K: Keeper, N: Network>(
     alloc: Global,
     room: &mut ServeRoom,
@@ -133,7 +134,8 @@ fn serve_client<S: Alter, K: Keeper, N: Network>(
     replied
 }
 
-/// Hangs up where a client had its whole reply: 1. Of one that ended in a fault nothing more is written or read: 0.
+/// Hangs up if a client had its whole reply, and returns 1. After a fault nothing more is written or read, and 0 is
+/// returned.
 fn end_reply<W: HangUp>(writer: &mut W, served: &Result<Served, IoFault>) -> u32
     ensures count { result ≡ whole (served.now ∷ []) }
     ensures few { result ≤ 1 }
@@ -148,7 +150,7 @@ fn end_reply<W: HangUp>(writer: &mut W, served: &Result<Served, IoFault>) -> u32
     }
 }
 
-/// Whether a reply of this status may come before the client has sent all that it announced.
+/// Whether a reply of this status may come before the client has sent everything that it announced.
 fn may_await(status: Status) -> bool
     ensures { result ≡ awaits_rest status }
 {
