@@ -236,7 +236,7 @@ impl Ord for Day {
     ghost matches_eq = { λ a b. refl };
 
     fn cmp(&self, other: &Day) -> Ordering {
-        self.number().cmp(&other.number())
+        self.date().cmp(&other.date())
     }
 }
 
