@@ -5,8 +5,9 @@
 //!
 //! They are computed criterion by criterion, from the last one back to the first. At each point they count only ways
 //! through the criteria seen so far. One more criterion adds, to each closure that has it, all that its own implied
-//! names reach. So a table of n criteria costs n looks at the names that each implies and n times n unions.
-ghost use Rattle.std.specs.Prelude.{◌≡◌, ◌↔◌, ◌≤◌, ℕ, true, slice_index_or};
+//! names reach. So a table of n criteria costs n looks at the names that each implies and n times n unions, however many
+//! criteria a table may have.
+ghost use Rattle.std.specs.Prelude.{◌≡◌, ◌↔◌, ◌<◌, ◌≤◌, ℕ, true, slice_index_or};
 ghost use Rattle.std.specs.FinSet as set;
 ghost use Rattle.vet_base.specs.Closures.{AreClosures, apart_at, closed_at, led_on};
 ghost use Rattle.vet_base.specs.Criteria.{Criteria, closure_of, leading_to, placed};
@@ -24,7 +25,7 @@ pub struct Closures {
 }
 
 impl Closures {
-    /// The closure of the names whose places are in a set. Costs one look for each place.
+    /// The closure of the names whose places are in a set. Costs one look for each place up to the last in the set.
     pub fn close(&self, set: &CriteriaSet) -> CriteriaSet
         ensures closure { (table : Criteria) (names : NameSet) → AreClosures table self.now
             → set.now ≡ placed table names → result ≡ placed table (closure_of table names) }
@@ -65,11 +66,13 @@ impl Closures {
         union_at(&self.closed, set)
     }
 
-    /// Adds these places to each closure that has the given one.
-    pub(crate) fn lead_on(&mut self, place: usize, to: &CriteriaSet)
-        ensures { (p : ℕ) → closed_at self.new p ≡ led_on place to.now (closed_at self.old p) }
+    /// Adds these places to each of the first closures that has the given one.
+    pub(crate) fn lead_on(&mut self, count: usize, place: usize, to: &CriteriaSet)
+        requires { count ≤ MOST_CRITERIA }
+        ensures first { (p : ℕ) → p < count → closed_at self.new p ≡ led_on place to.now (closed_at self.old p) }
+        ensures rest { (p : ℕ) → count ≤ p → closed_at self.new p ≡ closed_at self.old p }
     {
-        for from in 0..MOST_CRITERIA {
+        for from in 0..count {
             if self.closed[from].has(place) {
                 self.closed[from] = self.closed[from].union(to);
             }
@@ -83,10 +86,12 @@ pub fn union_at(sets: &[CriteriaSet; MOST_CRITERIA], places: &CriteriaSet) -> Cr
         ↔ ((p : ℕ) × (has p places.now ≡ true) × (has q (slice_index_or sets.now p set.empty) ≡ true)) }
 {
     let mut joined = CriteriaSet::empty();
-    for place in 0..MOST_CRITERIA {
+    let mut place = 0;
+    'places: while places.reaches(place) {
         if places.has(place) {
             joined = joined.union(&sets[place]);
         }
+        place += 1;
     }
     joined
 }

@@ -1,5 +1,5 @@
 //! Sets of criteria of one table.
-ghost use Rattle.std.specs.Prelude.{◌≡◌, ◌↔◌, ◌<◌, ℕ, true, false, IsTrue, ◌&&◌, not};
+ghost use Rattle.std.specs.Prelude.{◌≡◌, ◌↔◌, ◌<◌, ◌≤◌, ℕ, true, false, IsTrue, ◌&&◌, not};
 ghost use Rattle.std.specs.FinSet as set;
 ghost use Rattle.vet_base.specs.CriteriaSet.{meet, MeetOfNothing, MeetOfUnions};
 
@@ -53,6 +53,14 @@ impl CriteriaSet {
         ensures within { IsTrue result → place < MOST_CRITERIA }
     {
         place < MOST_CRITERIA && (self.word >> place) & 1 == 1
+    }
+
+    /// Whether a criterion at a place or at a later one is in the set.
+    pub(crate) fn reaches(&self, place: usize) -> bool
+        ensures within { IsTrue result → place < MOST_CRITERIA }
+        ensures none { result ≡ false → (p : ℕ) → place ≤ p → set.contains self.now p ≡ false }
+    {
+        place < MOST_CRITERIA && self.word >> place != 0
     }
 
     /// The set with one more place.

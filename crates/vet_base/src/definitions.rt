@@ -137,13 +137,14 @@ impl Definitions {
     pub fn closures(&self) -> Closures
         ensures { AreClosures self.now result }
     {
-        let mut place = self.criteria.len();
-        let mut closures = Closures::apart(place);
+        let count = self.criteria.len();
+        let mut closures = Closures::apart(count);
+        let mut place = count;
         'places: while place > 0 {
             place -= 1;
             let implied = self.set_of(&self.criteria[place].implies);
             let reached = closures.joined(&implied);
-            closures.lead_on(place, &reached);
+            closures.lead_on(count, place, &reached);
         }
         closures
     }

@@ -1,4 +1,8 @@
-use Rattle.std.proofs.Common.{◌≡◌, ◌<◌, ◌+◌, ◌-◌, ◌∷◌, [], length, get_or, drop, ap, sym, ◌∙◌, arith}
+use Rattle.std.proofs.Common.{◌≡◌, ℕ, ◌<◌, ◌+◌, ◌-◌, ◌∷◌, [], length, get_or, drop, ap, sym, ◌∙◌, arith, inl, inr}
+use Rattle.std.proofs.Common.{nat_lt}
+use Rattle.std.specs.FinSet as set
+use Rattle.std.specs.Ordering.{nat_cmp}
+use Rattle.std.proofs.lemmas.Bool.{cases_lt, cond-false, le-ltb}
 use Rattle.std.specs.FinMap as map
 use Rattle.std.proofs.lemmas.List.{drop_all, drop_more, get_or-map, length-map}
 use Rattle.vet_base.specs.declared.criterion.Criterion.{Criterion}
@@ -18,7 +22,7 @@ apart-closures-requires c =
       arith,
       few_kept names criteria c.self.invariant,
       length_kept names criteria c.self.invariant,
-      c.len-place.ensures,
+      c.len-count.ensures,
     )
 
 pub places-init : goal.places-init
@@ -30,19 +34,21 @@ places-init c =
     ap map.entries (sym c.self.view_is) ∙ entries_kept names criteria c.self.invariant in
     let many : length (map.entries table) ≡ length criteria =
     ap length entries ∙ length-map criteria (λ (d : Criterion). (d.name, d)) in
-    let place : c.len-place.result ≡ length (map.keys table) =
+    let place : c.len-count.result ≡ length (map.keys table) =
     omega (
       arith,
-      c.len-place.ensures,
+      c.len-count.ensures,
       length_kept names criteria c.self.invariant,
       ap length
           (keys_is names criteria c.self.invariant table c.self.view_is),
     ) in
     record {
-      within = omega (arith, c.len-place.ensures);
+      within = omega (arith, c.len-count.ensures);
+      rest = λ p high. c.apart-closures.ensures p ∙ cond-false (nat_lt p c.len-count.result) (set.insert set.empty p)
+          set.empty (le-ltb p c.len-count.result high);
       found = λ p. c.apart-closures.ensures p ∙ ap (λ n. apart_at n p) place ∙ none_reached table p
           ∙ ap (λ es. reach_at table es p)
-          (sym (drop_all c.len-place.result (map.entries table) (omega (arith, many, c.len-place.ensures))));
+          (sym (drop_all c.len-count.result (map.entries table) (omega (arith, many, c.len-count.ensures))));
     }
 
 pub places-preserved : goal.places-preserved
@@ -83,9 +89,19 @@ places-preserved c =
       λ h. (c.joined-reached.ensures q).1
           (h.0, ap (has h.0) c.set_of-implied.ensures ∙ h.1, ap (has q) (c.places.invariant.found h.0) ∙ h.2),
     )) in
+    let led : (p : ℕ)
+    → closed_at c.lead_on.new.self p ≡ led_on k c.joined-reached.result (closed_at c.places.closures p) =
+    λ p. elim (cases_lt p c.len-count.result) [
+      | inl first ↦ c.lead_on.ensures.first p first
+      | inr beyond ↦ (let was = c.places.invariant.rest p beyond in
+          c.lead_on.ensures.rest p beyond ∙ was ∙ sym (ap (led_on k c.joined-reached.result) was
+          ∙ cond-false (has k set.empty) (set.union set.empty c.joined-reached.result) set.empty
+          (set.contains-empty nat_cmp k)))
+    ] in
     record {
       within = omega (arith, c.places.invariant.within);
-      found = λ p. c.lead_on.ensures p ∙ ap (λ more. led_on k more (closed_at c.places.closures p)) reached
+      rest = λ p beyond. c.lead_on.ensures.rest p beyond ∙ c.places.invariant.rest p beyond;
+      found = λ p. led p ∙ ap (λ more. led_on k more (closed_at c.places.closures p)) reached
           ∙ ap (led_on k (placed table (reached_by rest d.implies))) (c.places.invariant.found p)
           ∙ reach_more table k under d rest p ∙ ap (λ es. reach_at table es p) (sym all);
     }
