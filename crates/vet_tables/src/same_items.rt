@@ -40,10 +40,14 @@ fn are_among<T: Exactly>(alloc: Global, xs: &[T], ys: &[T]) -> Result<bool, Allo
 }
 
 /// Whether each of the first items is among the second. Costs a search for each item of both, in their order, and
-/// copies none. Fails only if memory runs out.
+/// nothing if there are no first items. Copies none. Fails only if memory runs out.
 pub fn marks_among<T: Exactly>(alloc: Global, xs: &[T], ys: &[T]) -> Result<Vec<bool>, AllocError>
     ensures { IfOk result (λ marks. marks.items ≡ map (λ x. list_any (T.eq x) ys.now) xs.now) }
 {
+    // otherwise all of the second would be sorted for nothing
+    if xs.is_empty() {
+        return Ok(Vec::new(alloc));
+    }
     let mut seen = BTreeSet::new(alloc);
     'ys: for y in ys {
         let _ = seen.insert(ByRef::of(y))?;
