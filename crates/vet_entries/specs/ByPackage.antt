@@ -1,6 +1,6 @@
 -- The places of entries in the order of packages (ours).
 use Rattle.std.specs.Prelude.{ℕ, zero, suc, ◌≡◌, ◌<◌, ◌≤◌, ◌-◌, Bool, List, [], ◌∷◌, length, filter, take, drop}
-use Rattle.std.specs.Prelude.{Option}
+use Rattle.std.specs.Prelude.{Option, option_map, ℤ}
 use Rattle.std.specs.List.{All, between, filter_map, range_with_len, slice_get}
 use Rattle.std.specs.List.Sorted.{IsNonDecreasingBy}
 use Rattle.std.specs.Ordering.{is_eq, nat_cmp, ordering_index}
@@ -8,18 +8,23 @@ use Rattle.std.specs.Cmp.Lexicographic.{slice_cmp}
 use Rattle.std.specs.Str.{bytes_eq}
 use Rattle.std.specs.declared.cmp.Ordering.{Ordering}
 use Rattle.std.specs.declared.cmp.Ordering.TheVariants.{Less, Equal, Greater}
-use Rattle.vet_base.specs.Day.{DayValue}
+use Rattle.vet_base.specs.Day.{day_number}
 use Rattle.vet_base.specs.Words.{Name}
 use Rattle.vet_entries.specs.Kind.{last_day_of}
 use Rattle.vet_entries.specs.declared.facts.HeldEntry.{HeldEntry}
+use Rattle.vet_entries.specs.declared.kind.Kind.{Kind}
 
 -- an entry is of a package
 abbrev pub is_of : Name → HeldEntry → Bool
 is_of name held = bytes_eq held.entry.«package» name
 
--- the last day of a held entry, if it has one
-abbrev pub held_last_day : HeldEntry → Option DayValue
-held_last_day held = last_day_of held.entry.kind
+-- the number of the last day of a kind, if it has one
+abbrev pub last_number : Kind → Option ℤ
+last_number kind = option_map day_number (last_day_of kind)
+
+-- that of a held entry
+abbrev pub held_last_number : HeldEntry → Option ℤ
+held_last_number held = last_number held.entry.kind
 
 -- entries, and the number of further ones for which there is room
 pub record EntriesRoom : Type 0 where

@@ -31,29 +31,29 @@ ghost use Rattle.std.specs.Prelude.{remove, slice_index_or, true, false, vec_cap
 ghost use Rattle.std.specs.List.{All, range_with_len};
 ghost use Rattle.std.specs.List.Sorted.{IsNonDecreasingBy, IsPartitionPoint};
 ghost use Rattle.std.specs.Ordering.{is_le, is_lt, ordering_index};
-ghost use Rattle.vet_entries.specs.ByPackage.{IsByPackage, IsRange, IsSlot, down, gathered, is_of, held_last_day};
-ghost use Rattle.vet_entries.specs.ByPackage.{package_at, places_of, stand, up};
+ghost use Rattle.vet_entries.specs.ByPackage.{IsByPackage, IsRange, IsSlot, down, gathered, is_of, held_last_number};
+ghost use Rattle.vet_entries.specs.ByPackage.{last_number, package_at, places_of, stand, up};
 ghost use Rattle.vet_entries.specs.Numbered.{AreByNumber, place_of};
 
 use crate::facts::HeldEntry;
+use crate::kind::Kind;
 use std::alloc::{AllocError, Global};
 use std::cmp::Ordering;
 use std::marker::Model;
-use vet_base::day::Day;
 use vet_base::name::PackageName;
 
 /// Entries in the order of their numbers. Beside them are their places in the order of packages, so that those of a
-/// package are together, and their last days. An entry takes 432 bytes and a last day 8, so a pass over all last days
-/// reads much less memory here than in the entries.
+/// package are together, and the numbers of their last days. An entry takes 432 bytes and such a number 8, so a pass
+/// over all last days reads much less memory here than in the entries.
 pub(crate) struct ByPackage {
     entries: Vec<HeldEntry>,
     order: Vec<usize>,
-    last_days: Vec<Option<Day>>,
+    last_days: Vec<Option<i32>>,
 }
 
 impl Model for ByPackage {
     ghost use Rattle.std.specs.Prelude.{◌≡◌, ◌-◌, map, vec_len, vec_capacity};
-    ghost use Rattle.vet_entries.specs.ByPackage.{EntriesRoom, IsByPackage, held_last_day, lesser};
+    ghost use Rattle.vet_entries.specs.ByPackage.{EntriesRoom, IsByPackage, held_last_number, lesser};
     ghost use Rattle.vet_entries.specs.Encodings.{entries_room_code};
     ghost use Rattle.vet_entries.specs.Numbered.{AreByNumber};
     ghost use Rattle.vet_entries.specs.contracts.facts.HeldEntry as held;
@@ -69,7 +69,7 @@ impl Model for ByPackage {
     } };
 
     ghost invariant = { λ b. IsByPackage b.entries.items b.order.items × AreByNumber b.entries.items
-        × (b.last_days.items ≡ map held_last_day b.entries.items) };
+        × (b.last_days.items ≡ map held_last_number b.entries.items) };
 }
 
 impl Drop for ByPackage {
@@ -116,9 +116,9 @@ impl ByPackage {
         self.entries.as_slice()
     }
 
-    /// The last day of each entry, if it has one. Costs nothing.
-    pub(crate) fn last_days(&self) -> &[Option<Day>]
-        ensures { result.now ≡ map held_last_day self.now.entries }
+    /// The number of each entry's last day, if it has one. Costs nothing.
+    pub(crate) fn last_days(&self) -> &[Option<i32>]
+        ensures { result.now ≡ map held_last_number self.now.entries }
     {
         self.last_days.as_slice()
     }
@@ -177,7 +177,7 @@ impl ByPackage {
         );
         make_gap(&mut self.order, self.entries.len(), place);
         put(&mut self.order, slot, place);
-        put(&mut self.last_days, place, held.entry.kind.last_day());
+        put(&mut self.last_days, place, last_number(&held.entry.kind));
         put(&mut self.entries, place, held);
     }
 
@@ -216,15 +216,25 @@ fn places_below(alloc: Global, len: usize) -> Result<Vec<usize>, AllocError>
     Ok(places)
 }
 
-// The last day of each entry, if it has one.
-fn last_days_of(alloc: Global, entries: &[HeldEntry]) -> Result<Vec<Option<Day>>, AllocError>
-    ensures { IfOk result (λ days. days.items ≡ map held_last_day entries.now) }
+// The number of each entry's last day, if it has one.
+fn last_days_of(alloc: Global, entries: &[HeldEntry]) -> Result<Vec<Option<i32>>, AllocError>
+    ensures { IfOk result (λ days. days.items ≡ map held_last_number entries.now) }
 {
     let mut days = Vec::with_capacity(alloc, entries.len())?;
     for held in entries {
-        days.push(held.entry.kind.last_day())?;
+        days.push(last_number(&held.entry.kind))?;
     }
     Ok(days)
+}
+
+// The number of a kind's last day, if it has one.
+fn last_number(kind: &Kind) -> Option<i32>
+    ensures { result ≡ last_number kind.now }
+{
+    match kind.last_day() {
+        Some(day) => Some(day.number()),
+        None => None,
+    }
 }
 
 // The package of the entry at a place, or an empty text if there is no entry.

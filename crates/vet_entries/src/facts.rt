@@ -6,7 +6,7 @@ ghost use Rattle.std.specs.Ordering.{nat_cmp};
 ghost use Rattle.std.specs.Cmp.Lexicographic.{slice_cmp};
 ghost use Rattle.vet_base.specs.Criteria.{IsTable};
 ghost use Rattle.vet_base.specs.Keyed.{IsByKey};
-ghost use Rattle.vet_entries.specs.ByPackage.{gathered, held_last_day, is_of};
+ghost use Rattle.vet_entries.specs.ByPackage.{gathered, held_last_number, is_of};
 ghost use Rattle.vet_entries.specs.Facts.{entries_of_peers, entries_total, is_named, no_facts};
 ghost use Rattle.vet_entries.specs.HeldPeer.{holding_or_none, peer_name, peer_of, without_peer};
 ghost use Rattle.vet_entries.specs.Numbered.{AreByNumber, number_of, numbered, place_of};
@@ -213,9 +213,9 @@ impl EntryFacts {
         self.entries.entries()
     }
 
-    /// The last day of each of one's own entries, if it has one. Costs nothing.
-    pub fn last_days(&self) -> &[Option<Day>]
-        ensures { result.now ≡ map held_last_day self.now.content.entries }
+    /// The number of the last day of each of one's own entries, if it has one. Costs nothing.
+    pub fn last_days(&self) -> &[Option<i32>]
+        ensures { result.now ≡ map held_last_number self.now.content.entries }
     {
         self.entries.last_days()
     }

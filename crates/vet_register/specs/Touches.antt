@@ -10,9 +10,10 @@
 --
 -- Before the edit of a command is made, either the touched packages are known, or it is known that they depend on the
 -- demand after it (Touching, touched_with).
-use Rattle.std.specs.Prelude.{Bool, not, List, [], ◌∷◌, filter, map, Option, Some, None}
+use Rattle.std.specs.Prelude.{Bool, false, not, List, [], ◌∷◌, filter, map, Option, Some, None, ℤ}
 use Rattle.std.specs.Bool.{beq}
 use Rattle.std.specs.FinSet as set
+use Rattle.std.specs.Ordering.{int_cmp, is_lt}
 use Rattle.std.specs.declared.cmp.Ordering.{Ordering}
 use Rattle.std.specs.declared.cmp.Ordering.TheVariants.{Less, Equal, Greater}
 use Rattle.vet_base.specs.Day.{DayValue}
@@ -56,6 +57,12 @@ packages_of_peer facts name = map held_package (holding_or_none (peer_of facts.p
 abbrev pub lapses_between : Option DayValue → Option DayValue → HeldEntry → Bool
 lapses_between before after held =
     not (beq (has_lapsed held.entry.kind before) (has_lapsed held.entry.kind after))
+
+-- the number of a last day is before that of a day, if there are both
+abbrev pub is_past : Option ℤ → Option ℤ → Bool
+is_past None day = false
+is_past (Some last) None = false
+is_past (Some last) (Some day) = is_lt (int_cmp last day)
 
 -- the packages of the own entries that have lapsed on only one of the register's day and another day
 abbrev pub packages_lapsing : Facts → DayValue → List Name

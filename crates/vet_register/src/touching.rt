@@ -2,11 +2,12 @@
 //!
 //! The packages that an entry, a peer, publisher records or a day touches are known before the edit is made. Those of a
 //! policy or a project are not: they are the packages at which the demand after the edit differs from that before it.
-ghost use Rattle.std.specs.Prelude.{◌≡◌, ◌++◌, ◌∷◌, [], IfErr, IfOk, OnOk, filter, map};
+ghost use Rattle.std.specs.Prelude.{◌≡◌, ◌++◌, ◌∷◌, [], IfErr, IfOk, OnOk, filter, map, option_map};
 ghost use Rattle.std.specs.FinSet as set;
-ghost use Rattle.vet_entries.specs.ByPackage.{held_last_day};
+ghost use Rattle.vet_base.specs.Day.{day_number};
+ghost use Rattle.vet_entries.specs.ByPackage.{held_last_number};
 ghost use Rattle.vet_register.specs.Touches.{entry_package, held_package, lapses_between, only_at, packages_between};
-ghost use Rattle.vet_register.specs.Touches.{packages_lapsing, pair_package};
+ghost use Rattle.vet_register.specs.Touches.{is_past, packages_lapsing, pair_package};
 ghost use Rattle.vet_register.specs.declared.touching.Touching.TheVariants as touch;
 
 use std::alloc::{AllocError, Global};
@@ -18,7 +19,6 @@ use vet_base::refusal::Refusal;
 use vet_demand::pair::Pair;
 use vet_entries::entry::Entry;
 use vet_entries::facts::{EntryFacts, HeldEntry};
-use vet_entries::kind::is_over;
 use vet_graph::touched::Touched;
 
 /// The packages that a command touches, as far as they are known before its edit is made.
@@ -102,25 +102,49 @@ fn push_of_held(names: &mut Vec<PackageName>, entries: &[HeldEntry]) -> Result<(
     Ok(())
 }
 
-// Adds the packages of the held entries that have lapsed on only one of two days, by their last days.
+// Adds the packages of the held entries that have lapsed on only one of two days, by the numbers of their last days.
 fn push_of_lapsing(
     names: &mut Vec<PackageName>,
     entries: &[HeldEntry],
-    last_days: &[Option<Day>],
+    last_days: &[Option<i32>],
     before: Option<Day>,
     after: Option<Day>,
 ) -> Result<(), AllocError>
-    requires { last_days.now ≡ map held_last_day entries.now }
+    requires { last_days.now ≡ map held_last_number entries.now }
     ensures { OnOk result (names.new.items
         ≡ names.old.items ++ map held_package (filter (lapses_between before after) entries.now)) }
 {
+    let first = number_of(before);
+    let second = number_of(after);
     for (place, last_day) in last_days.iter().enumerate() {
         let held = &entries[place];
-        if is_over(*last_day, before) != is_over(*last_day, after) {
+        if is_past(*last_day, first) != is_past(*last_day, second) {
             names.push(held.entry.package.clone()?)?;
         }
     }
     Ok(())
+}
+
+// The number of a day, if there is one.
+fn number_of(day: Option<Day>) -> Option<i32>
+    ensures { result ≡ option_map day_number day }
+{
+    match day {
+        Some(day) => Some(day.number()),
+        None => None,
+    }
+}
+
+// Whether the number of a last day is before that of a day, if there are both.
+fn is_past(last: Option<i32>, day: Option<i32>) -> bool
+    ensures { result ≡ is_past last day }
+{
+    match (last, day) {
+        (None, None) => false,
+        (None, Some(_)) => false,
+        (Some(_), None) => false,
+        (Some(last), Some(day)) => last < day,
+    }
 }
 
 // Adds the packages of entries.

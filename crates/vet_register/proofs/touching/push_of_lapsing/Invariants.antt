@@ -6,4 +6,4 @@ use Rattle.vet_register.proofs.touching.push_of_lapsing.Given as goal
 abbrev pub invariant-loop-place : goal.invariant-loop-place
 invariant-loop-place l =
     l.names.items
-    ≡ l.fn.names.items ++ map held_package (filter (lapses_between l.before l.after) (take l.place l.entries))
+    ≡ l.fn.names.items ++ map held_package (filter (lapses_between l.fn.before l.fn.after) (take l.place l.entries))

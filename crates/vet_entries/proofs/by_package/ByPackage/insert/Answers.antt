@@ -1,6 +1,6 @@
 use Rattle.std.proofs.Common.{◌≤◌, length, map, arith, ap, subst, sym, ◌∙◌}
 use Rattle.std.specs.List.{insert}
-use Rattle.vet_entries.specs.ByPackage.{EntriesRoom, IsSlot, held_last_day}
+use Rattle.vet_entries.specs.ByPackage.{EntriesRoom, IsSlot, held_last_number}
 use Rattle.vet_entries.specs.Numbered.{AreByNumber}
 use Rattle.vet_entries.proofs.ByPackage.{inserted}
 use Rattle.vet_entries.proofs.Edits.{map-insert}
@@ -18,9 +18,9 @@ invariant_of-self c =
           (inserted entries order c.args.held c.args.place c.slot_of-slot.result within c.self.invariant.0 slot),
       rw (c.put-3.ensures.items) (subst (λ (b : EntriesRoom). AreByNumber (insert b.entries c.args.place c.args.held))
           (sym c.self.view_is) c.requires.by_number),
-      rw (c.put-3.ensures.items, c.put-2.ensures.items, map-insert held_last_day entries c.args.place c.args.held)
-          (ap (λ days. insert days c.args.place c.last_day.result) c.self.invariant.2
-          ∙ ap (λ day. insert (map held_last_day entries) c.args.place day) c.last_day.ensures),
+      rw (c.put-3.ensures.items, c.put-2.ensures.items, map-insert held_last_number entries c.args.place c.args.held)
+          (ap (λ days. insert days c.args.place c.last_number.result) c.self.invariant.2
+          ∙ ap (λ day. insert (map held_last_number entries) c.args.place day) c.last_number.ensures),
     )
 
 pub returns-clause-entries : goal.returns-clause-entries

@@ -1,7 +1,7 @@
 use Rattle.std.proofs.Common.{◌<◌, length, arith, ap, sym}
 use Rattle.std.proofs.lemmas.List.Quantifiers.{all_pairs_remove}
 use Rattle.vet_entries.specs.Numbered.{Rise}
-use Rattle.vet_entries.specs.ByPackage.{held_last_day}
+use Rattle.vet_entries.specs.ByPackage.{held_last_number}
 use Rattle.vet_entries.proofs.Edits.{insert-remove, map-remove}
 use Rattle.std.specs.List.{remove}
 use Rattle.vet_entries.proofs.by_package.ByPackage.remove.Goals as goal
@@ -17,7 +17,7 @@ invariant_of-self c = (
   rw (
     c.remove-2.ensures.items,
     c.remove.ensures.items,
-    map-remove held_last_day c.self.inside.entries.items c.args.place,
+    map-remove held_last_number c.self.inside.entries.items c.args.place,
   )
       (ap (λ days. remove days c.args.place) c.self.invariant.2),
 )
