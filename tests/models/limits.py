@@ -8,6 +8,8 @@ FURTHER_CRITERIA = MOST_CRITERIA - 2
 PEER_CRITERIA = 126
 # places of criteria in a full table: at its ends, and where the two halves of the word of a set meet
 PLACES = (0, MOST_CRITERIA // 2 - 1, MOST_CRITERIA // 2, MOST_CRITERIA - 2, MOST_CRITERIA - 1)
+# the bytes of the longest text in a file
+LONGEST_TEXT = 65_536
 MOST_PEERS, MOST_ENTRIES = 64, 100_000
 MOST_PUBLISHERS, MOST_POLICIES = 100_000, 10_000
 
