@@ -4,7 +4,8 @@ which was worked out by hand."""
 from typing import NamedTuple
 
 from models.columns import TABLES
-from models.limits import FURTHER_CRITERIA, PEER_CRITERIA
+from models.limits import FURTHER_CRITERIA, LONGEST_TEXT, MOST_ENTRIES, MOST_MOVES, MOST_PEERS, MOST_POLICIES
+from models.limits import MOST_PROJECTS, MOST_PUBLISHERS, PEER_CRITERIA
 from models.rows import names, optional, packed
 from models.versions import FIRST, SECOND
 
@@ -200,11 +201,32 @@ DAYS = ("day", "day1", "day2")
 UNKNOWN = names(["z"])
 
 
+def more_rows(count, table, cells):
+    """A statement that adds this many rows to a table, with these cells for each number `n` up to that one."""
+    numbers = f"WITH RECURSIVE at (n) AS (SELECT 1 UNION ALL SELECT n + 1 FROM at WHERE n < {count})"
+    return f"INSERT INTO {table} {numbers} SELECT {cells}"
+
+
 def more_criteria(peer, count):
     """A statement that adds this many criteria to a peer's table or to one's own."""
-    numbers = f"WITH RECURSIVE at (n) AS (SELECT 1 UNION ALL SELECT n + 1 FROM at WHERE n < {count})"
-    return f"INSERT INTO criteria {numbers} SELECT '{peer}', 'more-' || n, x'', x'', x'' FROM at"
+    return more_rows(count, "criteria", f"'{peer}', 'more-' || n, x'', x'', x'' FROM at")
 
+
+# the cells of an entry between its source and the end, but for the version
+UNTIL_VERSION, BEHIND_VERSION = "package, kind", "b, user, day1, day2, criteria, who, notes, suggest, renew, importable"
+
+
+def more_entries(peer, count):
+    """Statements that add this many entries to a peer's or to one's own, each of another version."""
+    cells = f"n + 2, '{peer}', {UNTIL_VERSION}, '1.0.' || n, {BEHIND_VERSION} FROM entries, at WHERE number = 1"
+    return f"{more_rows(count, 'entries', cells)}; UPDATE meta SET next_entry = {count + 3}"
+
+
+EDGE = "from_name, from_version, to_name, to_version, kind"
+MORE_PROJECTS = (
+    f"{more_rows(MOST_PROJECTS, 'nodes', 'project || n, name, version, party FROM nodes, at')}; "
+    f"{more_rows(MOST_PROJECTS, 'edges', f'project || n, {EDGE} FROM edges, at')}"
+)
 
 # rows of the right form, and changes of one row of them after which no register has them all
 BAD_ROWS = [
@@ -215,6 +237,8 @@ BAD_ROWS = [
     "UPDATE meta SET next_entry = 2",
     "UPDATE meta SET next_review = 1",
     "UPDATE meta SET moves_limit = 6",
+    "UPDATE meta SET moves_limit = 0",
+    f"UPDATE meta SET moves_limit = {MOST_MOVES + 1}",
     # the counts and the moves don't add up
     "UPDATE meta SET first1 = 1",
     "UPDATE meta SET first4 = 1",
@@ -243,15 +267,26 @@ BAD_ROWS = [
     "UPDATE entries SET a = '0.4.0' WHERE number = 2",
     "UPDATE entries SET importable = 1 WHERE number = 2",
     ("UPDATE entries SET criteria = ? WHERE number = 2", UNKNOWN),
+    ("UPDATE entries SET criteria = ? WHERE number = 2", packed([b"\xff"])),
+    ("UPDATE entries SET notes = ? WHERE number = 2", packed([(LONGEST_TEXT + 1) * b"a"])),
+    # no kind, and trust by a peer
+    "UPDATE entries SET kind = 6 WHERE number = 1",
+    "UPDATE entries SET kind = 4, a = '', user = 5, day1 = 19358, day2 = 19722 WHERE number = 1",
+    # an entry twice, by two numbers
+    f"INSERT INTO entries SELECT 3, peer, {UNTIL_VERSION}, a, {BEHIND_VERSION} FROM entries WHERE number = 2; "
+    "UPDATE meta SET next_entry = 4",
     "UPDATE publishers SET user = 6",
     "UPDATE publishers SET version = '0.4.1'",
     "DELETE FROM publishers",
     ("UPDATE policies SET criteria = ?", optional(UNKNOWN)),
     ("UPDATE policies SET criteria = ?", optional(names(["safe-to-run"]))),
+    ("UPDATE policies SET criteria = ?", packed([names(["safe-to-run"]), names(["safe-to-deploy"])])),
     ("UPDATE policies SET dependency = ?", packed([b"log", b""])),
     ("UPDATE peers SET map = ?", packed([b"reviewed", UNKNOWN])),
     "UPDATE peers SET map = x''",
     ("UPDATE peers SET exclude = ?", names(["serde"])),
+    ("UPDATE peers SET exclude = ?", packed([b"\xff"])),
+    ("UPDATE peers SET url = ?", packed([b"\xff"])),
     "DELETE FROM peers",
     "UPDATE nodes SET party = 1 WHERE name = 'serde'",
     "DELETE FROM nodes WHERE name = 'serde'",
@@ -275,6 +310,8 @@ BAD_ROWS = [
     "UPDATE reviews SET state = 0",
     "UPDATE reviews SET state = 4",
     "UPDATE reviews SET entry = 1",
+    # finished by an entry that was never there
+    "UPDATE reviews SET state = 2, member = '', entry = 3",
     "UPDATE reviews SET number = 2",
     ("UPDATE reviews SET criteria = ?", UNKNOWN),
 ]
@@ -286,6 +323,13 @@ BAD_ROWS_OF = {
         "INSERT INTO today VALUES (2, 19844)",
         "INSERT INTO today VALUES (0, 0)",
         "INSERT INTO lasts VALUES (2, 19844)",
+        # one more than there may be
+        more_entries("", MOST_ENTRIES),
+        more_entries("p", MOST_ENTRIES),
+        more_rows(MOST_PUBLISHERS, "publishers", "package, '0.5.' || n, user, day, login, name FROM publishers, at"),
+        more_rows(MOST_POLICIES, "policies", "'p' || n, as_crates, criteria, dev, dependency, notes FROM policies, at"),
+        more_rows(MOST_PEERS, "peers", "'p' || n, url, exclude, map FROM peers, at"),
+        MORE_PROJECTS,
     ],
 }
 
