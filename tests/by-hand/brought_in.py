@@ -2,6 +2,7 @@
 with many tests of one kind, only one in so many is taken."""
 
 import glob
+import importlib
 import importlib.machinery
 import itertools
 import os
@@ -164,6 +165,9 @@ def tests(programs):
     """The names and the calls of all tests. What several of them begin from is made before any process is forked."""
     os.environ["VETD"] = programs["vetd"]
     sys.path.insert(0, TESTS)
+    # before any script takes its limits from there
+    limits = importlib.import_module("models.limits")
+    vars(limits).update({name: most for name, most in planted.LIMITS.items() if hasattr(limits, name)})
     for name in SCRIPTS:
         for named, call in load(name, programs).tests():
             if named not in LEFT_OUT and OTHER_KEEPER not in named:
