@@ -33,7 +33,8 @@ EXACT = {
     "vet_item_rows::read::read_error::found",
 }
 # not of the product
-PASSED_OVER = ("trials", "trial_clients", "trial_registers", "trial_stores", "trial_times", "trial_values")
+PASSED_OVER = ("trials", "trial_clients", "trial_registers", "trial_stores", "trial_store_times", "trial_times",
+               "trial_values")
 # a planted program is slow, so that these are reached sooner in it
 LIMITS = {
     "MOST_ENTRIES": 1_000,

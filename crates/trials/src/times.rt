@@ -47,7 +47,7 @@ use crate::times::input::{Task, read_path, read_task, read_text};
 use crate::words::KeeperWord;
 use std::process::ExitCode;
 use trial_registers::relay::RelayKeeper;
-use trial_stores::memory_rounds::run_memory;
+use trial_store_times::memory_rounds::run_memory;
 use trial_times::demand_rounds::run_demands;
 use trial_times::desk_rounds::run_reviews;
 use trial_times::import_rounds::run_imports;

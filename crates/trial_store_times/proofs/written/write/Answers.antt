@@ -1,6 +1,6 @@
 -- The rows of a change have the columns of their tables.
 use Rattle.std.proofs.Common.{subst}
-use Rattle.trial_stores.proofs.written.write.Goals as goal
+use Rattle.trial_store_times.proofs.written.write.Goals as goal
 use Rattle.vet_base.specs.Items.{IsIn}
 
 pub commit_changes-requires-clause-fit : goal.commit_changes-requires-clause-fit

@@ -1,5 +1,5 @@
 use Rattle.std.proofs.Common.{subst}
-use Rattle.trial_stores.proofs.opened_parts.rows_in.Goals as goal
+use Rattle.trial_store_times.proofs.opened_parts.rows_in.Goals as goal
 use Rattle.vet_tables.specs.Versions.{HasVersion}
 
 pub read_rows-requires : goal.read_rows-requires
