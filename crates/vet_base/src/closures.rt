@@ -5,8 +5,8 @@
 //!
 //! They are computed criterion by criterion, from the last one back to the first. At each point they count only ways
 //! through the criteria seen so far. One more criterion adds, to each closure that has it, all that its own implied
-//! names reach. So a table of n criteria costs n looks at the names that each implies and n times n unions, however many
-//! criteria a table may have.
+//! names reach. So a table of n criteria costs n looks at the names that each implies and n times n unions, however
+//! many criteria a table may have.
 ghost use Rattle.std.specs.Prelude.{◌≡◌, ◌↔◌, ◌<◌, ◌≤◌, ℕ, true, slice_index_or};
 ghost use Rattle.std.specs.FinSet as set;
 ghost use Rattle.vet_base.specs.Closures.{AreClosures, apart_at, closed_at, led_on};
