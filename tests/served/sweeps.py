@@ -1,7 +1,8 @@
 """Requests with allocations refused in turn. A client gets the reply that it would get otherwise, or 503, or its
 connection ends. After 503, or no reply, the tables are as before, and a register in memory shows what it showed. A
 command of the next client is done, unless the store is shut. It may be shut only if a commit failed: the request wrote
-to the register's file or its log, or memory ran out at one of its last allocations."""
+to the register's file or its log, or memory ran out at one of its last allocations. If memory runs out before the
+program listens, it ends with 29, or with 30 if the files of a register in memory cannot grow."""
 
 import os
 import tempfile
@@ -26,6 +27,8 @@ AT_THE_START, AT_THE_END = 10, 12
 TRIES = 5
 REFUSED, ENDED = reply_of(503, b"refused 29 NoMemory\n"), b""
 OF_SHUT = reply_of(503, b"refused 30 StoreRefused\n")
+# how the program ends if the files of a register in memory could not grow: to its database that is a fault of a disk
+NO_ROOM = (1, b"", b"refused 30 StoreRefused\n")
 # what the next client of a register in a file posts
 NEXT = request_of("POST", "/commands", document("add-member", member="next"))
 
@@ -110,6 +113,8 @@ class Sweep:
         yield from ((reply, *unchanged) for reply in (REFUSED, ENDED))
         if not self.request.once_accepted:
             yield NO_MEMORY, ENDED, self.before
+            if not self.request.in_file:
+                yield NO_ROOM, ENDED, self.before
 
     def shut(self):
         """What the request may leave if its commit failed: the store is shut, and the command is not in the tables. A
