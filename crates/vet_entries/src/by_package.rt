@@ -3,9 +3,10 @@
 //! **Each entry is listed once, in the order of the numbers, and the places of a package's entries are side by side.**
 //!
 //! Entries are kept by source: one's own in one list, those of each peer with the peer. Each list is in the order of
-//! numbers. Beside it are the places of its entries in the order of their packages. So the entries of a package are
-//! found by two binary searches, and no entry of a peer has to be sought among all. If the entries of all sources are
-//! needed, they are gathered source by source and put in the order of numbers (`source`, `package_entries`).
+//! numbers. Beside it are the places of its entries in the order of their packages. So the first entry of a package is
+//! found by a binary search, with the others behind it, and no entry of a peer has to be sought among all. If the
+//! entries of all sources are needed, they are gathered source by source and put in the order of numbers (`source`,
+//! `package_entries`).
 //!
 //! There are three reasons to keep them by source. A peer is removed together with all that is held of it. An import
 //! exchanges one value for another, and looks at no entry of another source. Own entries are found as if there were no
@@ -28,7 +29,7 @@
 //! is in the order of numbers without a sort.
 ghost use Rattle.std.specs.Prelude.{◌≡◌, ◌<◌, ◌≤◌, ◌+◌, ◌-◌, [], IfOk, IsOk, OnOk, OnErr, filter, insert, length, map};
 ghost use Rattle.std.specs.Prelude.{remove, slice_index_or, true, false, vec_capacity, vec_len};
-ghost use Rattle.std.specs.List.{All, range_with_len};
+ghost use Rattle.std.specs.List.{All, AllWithin, range_with_len};
 ghost use Rattle.std.specs.List.Sorted.{IsNonDecreasingBy, IsPartitionPoint};
 ghost use Rattle.std.specs.Ordering.{is_le, is_lt, ordering_index};
 ghost use Rattle.vet_entries.specs.ByPackage.{IsByPackage, IsRange, IsSlot, down, gathered, is_of, held_last_number};
@@ -123,13 +124,13 @@ impl ByPackage {
         self.last_days.as_slice()
     }
 
-    /// The places of a package's entries, in rising order. Costs two binary searches.
+    /// The places of a package's entries, in rising order. Costs a binary search, and a look at each of them.
     pub(crate) fn places_of(&self, package: &PackageName) -> &[usize]
         ensures places { result.now ≡ places_of self.now.entries «package».now }
         ensures within { All (λ place. place < length self.now.entries) result.now }
         ensures entries { gathered self.now.entries result.now ≡ filter (is_of «package».now) self.now.entries }
     {
-        let (low, high) = range_of(self.entries.as_slice(), self.order.as_slice(), package);
+        let (low, high) = range_read(self.entries.as_slice(), self.order.as_slice(), package);
         &self.order.as_slice()[low..high]
     }
 
@@ -275,6 +276,35 @@ fn upper(entries: &[HeldEntry], order: &[usize], name: &PackageName) -> usize
         (λ place. is_le (stand entries.now name.now place) ≡ false) order.now result }
 {
     order.partition_point(|place| stand(entries, name, *place).is_le())
+}
+
+// The number of places before those that follow a package's, counted on from those before its own.
+fn upper_from(entries: &[HeldEntry], order: &[usize], name: &PackageName, low: usize) -> usize
+    requires rising { IsNonDecreasingBy (λ place. ordering_index (stand entries.now name.now place)) order.now }
+    requires bound { low ≤ length order.now }
+    requires low { AllWithin (λ place. is_lt (stand entries.now name.now place) ≡ true) order.now 0 low }
+    ensures bound { result ≤ length order.now }
+    ensures point { IsPartitionPoint (λ place. is_le (stand entries.now name.now place) ≡ true)
+        (λ place. is_le (stand entries.now name.now place) ≡ false) order.now result }
+{
+    let mut high = low;
+    'places: while high < order.len() {
+        if !stand(entries, name, order[high]).is_le() {
+            return high;
+        }
+        high += 1;
+    }
+    high
+}
+
+// The start and the end of a package's places in the order. Looks at each of the places, which costs less than a second
+// search if they are read next.
+fn range_read(entries: &[HeldEntry], order: &[usize], name: &PackageName) -> (usize, usize)
+    requires by_package { IsByPackage entries.now order.now }
+    ensures { IsRange entries.now name.now order.now result.0 result.1 }
+{
+    let low = lower(entries, order, name);
+    (low, upper_from(entries, order, name, low))
 }
 
 // The start and the end of a package's places in the order.

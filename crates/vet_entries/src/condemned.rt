@@ -30,10 +30,10 @@ use vet_base::version::VetVersion;
 /// The criteria for which a version of a package is condemned: those whose closure has a criterion that a violation of
 /// the package names, if the requirement of the violation matches the version. The violation is one's own, or that of a
 /// peer that does not exclude the package. The names in a peer's violation are mapped, and neither they nor one's own
-/// are closed. Takes no memory. Costs two binary searches among the own entries and two among those of each peer, a
-/// look at each of the package's entries, and the closures of the table once. Each violation that matches costs a
-/// search for each of its names. For a peer's violation this is a search in the peer's map, and one for each name that
-/// the map lists there.
+/// are closed. Takes no memory. Costs a binary search among the own entries and one among those of each peer, a look at
+/// each of the package's entries, and the closures of the table once. Each violation that matches costs a search for
+/// each of its names. For a peer's violation this is a search in the peer's map, and one for each name that the map
+/// lists there.
 pub fn condemned(package: &PackageName, version: &VetVersion, facts: &EntryFacts) -> CriteriaSet
     ensures { (c : ℕ) → has c result ≡ is_condemned facts.now.content «package».now c version.now }
 {

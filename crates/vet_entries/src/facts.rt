@@ -308,8 +308,8 @@ impl EntryFacts {
         self.entries.places_of(package)
     }
 
-    /// The number of the own entry that equals this one taken as an own one, if there is one. Costs two binary searches
-    /// among the own entries, and a look at each of the package's, up to the equal one.
+    /// The number of the own entry that equals this one taken as an own one, if there is one. Costs a binary search
+    /// among the own entries, and a look at each of the package's.
     pub fn number_of(&self, entry: &Entry) -> Option<u64>
         ensures { result ≡ number_of self.now.content.entries entry.now }
     {

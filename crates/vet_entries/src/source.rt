@@ -17,7 +17,7 @@ pub(crate) struct Source<'a> {
     pub(crate) places: &'a [usize],
 }
 
-/// One's own entries of a package. Costs two binary searches among them.
+/// One's own entries of a package. Costs a binary search among all own ones, and a look at each of the package's.
 pub(crate) fn own_entries<'a>(package: &PackageName, facts: &'a EntryFacts) -> Source<'a>
     ensures entries { entries_from result ≡ sourced None «package».now facts.now.content.entries }
     ensures within { IsWithin result }
@@ -29,7 +29,8 @@ pub(crate) fn own_entries<'a>(package: &PackageName, facts: &'a EntryFacts) -> S
     }
 }
 
-/// The entries of a package that are taken from a peer. Costs two binary searches among the peer's entries.
+/// The entries of a package that are taken from a peer. Costs a binary search among the peer's entries, and a look at
+/// each of the package's.
 pub(crate) fn entries_taken<'a>(package: &PackageName, peer: &'a HeldPeer) -> Source<'a>
     ensures entries { entries_from result ≡ taken_from «package».now peer.now }
     ensures within { IsWithin result }

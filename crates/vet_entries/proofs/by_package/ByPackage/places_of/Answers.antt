@@ -6,7 +6,7 @@ use Rattle.vet_entries.proofs.by_package.ByPackage.places_of.Goals as goal
 
 pub returns-clause-places : goal.returns-clause-places
 returns-clause-places c =
-    let range = rw (c.as_slice.ensures.value, c.as_slice-2.ensures.value) at c.range_of-low.ensures in
+    let range = rw (c.as_slice.ensures.value, c.as_slice-2.ensures.value) at c.range_read-low.ensures in
     rw c.as_slice-3.ensures.value (range_is_places _ _ _ _ _ c.self.invariant.0 range)
     ∙ ap (λ b. places_of b.entries c.args.package.now) c.self.view_is
 
