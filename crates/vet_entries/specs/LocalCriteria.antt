@@ -38,7 +38,7 @@ stands_for table peer name =
 abbrev pub AreWords : Criteria → HeldPeer → PeerWords → Type 0
 AreWords table peer words =
     (name : Name) (p : ℕ) → place_of peer.content.table name ≡ Some p
-    → slice_index_or words.stands p set.empty ≡ stands_for table peer name
+    → slice_index_or words.stands.value p set.empty ≡ stands_for table peer name
 
 -- the slot of a peer is empty, or has the peer's words in it
 abbrev pub HoldsWords : Criteria → HeldPeer → Option PeerWords → Type 0

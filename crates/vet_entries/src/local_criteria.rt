@@ -23,6 +23,7 @@ use crate::criteria_map::CriteriaMap;
 use crate::facts::EntryFacts;
 use crate::held_peer::HeldPeer;
 use std::alloc::{AllocError, Global};
+use std::boxed::Box;
 use vet_base::closures::{Closures, union_at};
 use vet_base::criteria_set::CriteriaSet;
 use vet_base::criteria_table::{CriteriaTable, is_built_in};
@@ -47,10 +48,11 @@ impl Drop for LocalCriteria {
 }
 
 // The criteria that each criterion of a peer stands for with all that it implies there, by its place among the peer's
-// names. They are not yet closed in one's own table.
+// names. They are not yet closed in one's own table. They are on the heap, so that the slot of a peer that no entry
+// needs is small.
 #[derive(Drop)]
 struct PeerWords {
-    stands: [CriteriaSet; MOST_CRITERIA],
+    stands: Box<[CriteriaSet; MOST_CRITERIA]>,
 }
 
 impl LocalCriteria {
@@ -82,19 +84,25 @@ impl LocalCriteria {
     }
 
     /// The local criteria of some names of the peer at a place. Costs a lookup for each name. The first time it also
-    /// costs the closures of the peer's criteria, and a lookup in the peer's map for each name that they imply. Takes
-    /// no memory.
-    pub(crate) fn of_peer(&mut self, facts: &EntryFacts, place: usize, names: &Names) -> CriteriaSet
+    /// costs the closures of the peer's criteria, a lookup in the peer's map for each name that they imply, and the
+    /// memory of a set for each criterion that a table may have. Fails only if memory runs out.
+    pub(crate) fn of_peer(
+        &mut self,
+        alloc: Global,
+        facts: &EntryFacts,
+        place: usize,
+        names: &Names,
+    ) -> Result<CriteriaSet, AllocError>
         requires local { AreLocal facts.now.content self.old }
         requires place { place < length facts.now.content.peers }
-        ensures criteria { (d : HeldPeer) → result ≡ local_criteria facts.now.content.criteria
-            (Some (slice_index_or facts.now.content.peers place d)) names.now }
+        ensures criteria { IfOk result (λ set. (d : HeldPeer) → set ≡ local_criteria facts.now.content.criteria
+            (Some (slice_index_or facts.now.content.peers place d)) names.now) }
         ensures local { AreLocal facts.now.content self.new }
     {
         let criteria = facts.criteria();
         let peer = &facts.peers()[place];
-        let stands = stand_by(&mut self.peers[place], criteria, peer, names);
-        self.own.close(&stands)
+        let stands = stand_by(alloc, &mut self.peers[place], criteria, peer, names)?;
+        Ok(self.own.close(&stands))
     }
 }
 
@@ -112,23 +120,24 @@ fn empty_slots<T: Drop>(alloc: Global, count: usize) -> Result<Vec<Option<T>>, A
 // The criteria that some names of a peer stand for with all that they imply there, by the words in the peer's slot. If
 // the slot is empty, the words are found and put there.
 fn stand_by(
+    alloc: Global,
     slot: &mut Option<PeerWords>,
     criteria: &CriteriaTable,
     peer: &HeldPeer,
     names: &Names,
-) -> CriteriaSet
+) -> Result<CriteriaSet, AllocError>
     requires { HoldsWords criteria.now peer.now slot.old }
-    ensures stands { result ≡ placed criteria.now
-        (mapped peer.now.settings.map (closure_of peer.now.content.table names.now)) }
+    ensures stands { IfOk result (λ set. set ≡ placed criteria.now
+        (mapped peer.now.settings.map (closure_of peer.now.content.table names.now))) }
     ensures words { HoldsWords criteria.now peer.now slot.new }
 {
     if let Some(words) = &*slot {
-        return words.of_names(criteria, peer, names);
+        return Ok(words.of_names(criteria, peer, names));
     }
-    let words = PeerWords::of(criteria, peer);
+    let words = PeerWords::of(alloc, criteria, peer)?;
     let stands = words.of_names(criteria, peer, names);
     *slot = Some(words);
-    stands
+    Ok(stands)
 }
 
 /// The own criteria that a peer's violation names, closed neither by the peer nor here. Takes no memory.
@@ -144,8 +153,8 @@ pub(crate) fn mapped_set(criteria: &CriteriaTable, map: &CriteriaMap, names: &Na
 
 impl PeerWords {
     // The criteria that each criterion of a peer stands for.
-    fn of(criteria: &CriteriaTable, peer: &HeldPeer) -> PeerWords
-        ensures { AreWords criteria.now peer.now result }
+    fn of(alloc: Global, criteria: &CriteriaTable, peer: &HeldPeer) -> Result<PeerWords, AllocError>
+        ensures { IfOk result (AreWords criteria.now peer.now) }
     {
         let definitions = peer.content.definitions();
         let direct = direct_words(criteria, &peer.settings.map, definitions);
@@ -156,7 +165,9 @@ impl PeerWords {
             let reached = closures.close(&CriteriaSet::empty().with(place));
             stands[place] = union_at(&direct, &reached);
         }
-        PeerWords { stands }
+        Ok(PeerWords {
+            stands: Box::new(alloc, stands)?,
+        })
     }
 
     // The criteria that some names of the peer stand for with all that they imply there.

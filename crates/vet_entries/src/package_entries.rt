@@ -47,8 +47,8 @@ struct Taken<'a> {
 }
 
 impl<'a> PackageEntries<'a> {
-    /// The entries of a package. Costs two binary searches among the own entries and two among those of each peer.
-    /// Refused: `NoMemory`.
+    /// The entries of a package. Costs a binary search among the own entries and one among those of each peer, and a
+    /// look at each of these entries. Refused: `NoMemory`.
     pub fn of(
         alloc: Global,
         package: &'a PackageName,
@@ -201,7 +201,7 @@ fn all_steps(
 {
     let mut steps = Vec::new(alloc);
     for entry in taken {
-        let criteria = criteria_of(entry, facts, local);
+        let criteria = criteria_of(alloc, entry, facts, local)?;
         let today = facts.today();
         add_kind_steps(&mut steps, &entry.held.entry.kind, today, records, criteria)?;
     }
@@ -209,16 +209,24 @@ fn all_steps(
 }
 
 // The local criteria of an entry.
-fn criteria_of(entry: &Taken<'_>, facts: &EntryFacts, local: &mut LocalCriteria) -> CriteriaSet
+fn criteria_of(
+    alloc: Global,
+    entry: &Taken<'_>,
+    facts: &EntryFacts,
+    local: &mut LocalCriteria,
+) -> Result<CriteriaSet, AllocError>
     requires local { AreLocal facts.now.content local.old }
     requires peer { HasPeer facts.now.content.peers entry.now }
-    ensures criteria { result
+    ensures criteria { IfOk result (λ set. set
         ≡ local_criteria facts.now.content.criteria (peer_at facts.now.content.peers entry.now.peer)
-        entry.now.held.now.entry.criteria }
+        entry.now.held.now.entry.criteria) }
     ensures local { AreLocal facts.now.content local.new }
 {
     match entry.peer {
-        None => local.of_own(facts, &entry.held.entry.criteria),
-        Some(place) => local.of_peer(facts, place, &entry.held.entry.criteria),
+        None => Ok(local.of_own(facts, &entry.held.entry.criteria)),
+        Some(place) => {
+            let criteria = local.of_peer(alloc, facts, place, &entry.held.entry.criteria)?;
+            Ok(criteria)
+        }
     }
 }

@@ -18,6 +18,6 @@ returns-clause-criteria c d =
     ∙ get_or_default peers place peer e c.requires.place in
     let there = closure_of peer.content.table names in
     c.close.ensures.closure table (mapped peer.settings.map there) c.requires.local.own
-    (c.stand_by-stands.ensures.stands
+    (c.in_ok-stands.ensures.stands
     ∙ ap (λ t. placed t (mapped peer.settings.map there)) c.criteria-criteria.ensures.value)
     ∙ ap (λ (p : HeldPeer). local_criteria table (Some p) names) (same d)

@@ -11,9 +11,6 @@ use Rattle.vet_entries.proofs.JoinedWords.{set_below}
 use Rattle.vet_entries.proofs.PeerWords.{words_joined}
 use Rattle.vet_entries.proofs.local_criteria.PeerWords.of.Goals as goal
 
-many : (c : goal.After-loop-place) → length c.names-count.result.now ≡ length (map.keys c.args.peer.now.content.table)
-many c = ap length c.names-count.ensures.names ∙ ap (λ t. length (map.keys t)) c.definitions-definitions.ensures
-
 pub loop-place-preserved : goal.loop-place-preserved
 loop-place-preserved c =
     let table = c.args.criteria.now in
@@ -49,6 +46,10 @@ loop-place-preserved c =
 
 pub returns : goal.returns
 returns c name p at =
+    let keys = map.keys c.args.peer.now.content.table in
+    let many : length c.names-count.result.now ≡ length keys = ap length c.names-count.ensures.names
+    ∙ ap (λ t. length (map.keys t)) c.definitions-definitions.ensures in
     let a = at_place c.args.peer.now.content.table name p at in
-    c.loop-place.invariant.below p (omega (arith, a.0, many c, c.loop-place-test.false))
+    ap (λ sets. get_or sets p set.empty) c.in_ok-new.ensures.ok
+    ∙ c.loop-place.invariant.below p (omega (arith, a.0, many, c.loop-place-test.false))
     ∙ ap (stands_for c.args.criteria.now c.args.peer.now) a.1
