@@ -18,6 +18,7 @@ pub mod ReqTexts
 pub mod RowStatements
 pub mod RowTexts
 pub mod Running
+pub mod Sparing
 pub mod StartRows
 pub mod Steps
 pub mod TakingOver

@@ -1,5 +1,5 @@
 -- A store that was closed and opened again, and what remains of it if it could not be opened (ours).
-use Rattle.std.specs.Prelude.{◌≡◌, false, IsTrue, ⊤}
+use Rattle.std.specs.Prelude.{◌≡◌, ◌⊎◌, false, IsTrue, ⊤}
 use Rattle.sqlite.specs.Closing.{IsCopied}
 use Rattle.sqlite.specs.Files.{IsCleanLeft, IsClosed, LeavesFiles, file_state}
 use Rattle.sqlite.specs.Held.{Held}
@@ -12,6 +12,7 @@ use Rattle.sqlite_store.specs.FileStore.{files as files_in}
 use Rattle.sqlite_store.specs.declared.store.FileStore.{FileStore}
 use Rattle.sqlite_trees.specs.Tree.{Trees}
 use Rattle.vet_base.specs.declared.refusal.Refusal.{Refusal}
+use Rattle.vet_base.specs.declared.refusal.Refusal.TheVariants.{NotARegister}
 use Rattle.vet_register.specs.Sound.{IsSound}
 use Rattle.vet_register.specs.State.{State}
 use Rattle.vet_rows.specs.HeldState.{IsHeldState}
@@ -42,12 +43,14 @@ pub record LosesNothing (new : sqlite.State) (s : State) : Type 0 where
 
 -- ---- what remains of a store whose files were not opened again
 
--- The refusal is 29 or 30. If the register could not be read, this holds as long as the connection serves on a clean
--- disk, and otherwise whatever the disk did
+-- The refusal is 29 or 30. If the register could not be read, it may also be 31, but not as long as the connection
+-- serves on a clean disk
 abbrev pub RefusesAgain : {D : Type 0} {g : Ghosts D} → Remains D g → Refusal → Type 0
 RefusesAgain (remains.Store store) e = IsOfStore e
 RefusesAgain (remains.Files left) e = IsOfStore e
-RefusesAgain (remains.Conn conn) e = HasCleanDisk (file_state conn) → IsTrue (file_state conn).is_open → IsOfStore e
+RefusesAgain (remains.Conn conn) e =
+    (IsOfStore e ⊎ (e ≡ NotARegister))
+    × (HasCleanDisk (file_state conn) → IsTrue (file_state conn).is_open → IsOfStore e)
 
 -- this holds of the connection, if one remains
 abbrev pub OfConn : {D : Type 0} {g : Ghosts D} → Remains D g → (Held (FileStore D g) → Type 0) → Type 0

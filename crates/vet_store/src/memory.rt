@@ -4,7 +4,7 @@
 //! the kit's own store in memory the connection always serves, but a commit takes longer the more the register holds.
 //! Over files in memory a commit always costs the same. But there the connection may end if memory runs out, and then
 //! nobody can ask what its tables have.
-ghost use Rattle.std.specs.Prelude.{◌≡◌, ◌<◌, ◌≤◌, IfErr, IfOk, IsTrue, length};
+ghost use Rattle.std.specs.Prelude.{◌≡◌, ◌<◌, ◌≤◌, IfErr, IfOk, IsTrue, false, length};
 ghost use Rattle.sqlite.specs.Files.{file_state};
 ghost use Rattle.sqlite.specs.Held.{state};
 ghost use Rattle.sqlite.specs.Steps.{over_memory};
@@ -12,6 +12,7 @@ ghost use Rattle.vet_register.specs.Sound.{IsBalanced};
 ghost use Rattle.vet_register.specs.State.{start};
 ghost use Rattle.vet_rows.specs.RowsOf.{rows_of};
 ghost use Rattle.vet_store.specs.Classes.{AddsUp, HasClassesOfChains};
+ghost use Rattle.vet_store.specs.Exact.{IsExactTurn};
 ghost use Rattle.vet_store.specs.Repeats.{IsTurnWithRepeats};
 ghost use Rattle.vet_store.specs.Runs.{Each, IsOfDone, IsOfStore, Ran};
 ghost use Rattle.vet_store.specs.Stands.{Stands};
@@ -45,6 +46,8 @@ pub fn run_in_memory<K: Keeper>(
     ensures balance { IfOk result (λ r. IsBalanced r.store.register.state) }
     ensures repeats { IfOk result (λ r. Each IsTurnWithRepeats (start moves_limit) commands.now r.answers.items
         r.store.register.state) }
+    ensures exact { IfOk result (λ r. r.store.shut ≡ false → Each IsExactTurn (start moves_limit) commands.now
+        r.answers.items r.store.register.state) }
     ensures tables { IfOk result (λ r. Stands (state over_memory r.store.conn) (rows_of r.store.register.state)) }
     ensures refused { IfErr result IsOfStore }
 {
@@ -82,6 +85,8 @@ pub fn run_in_memory_files<K: Keeper>(
     ensures balance { IfOk result (λ r. IsBalanced r.store.register.state) }
     ensures repeats { IfOk result (λ r. Each IsTurnWithRepeats (start moves_limit) commands.now r.answers.items
         r.store.register.state) }
+    ensures exact { IfOk result (λ r. r.store.shut ≡ false → Each IsExactTurn (start moves_limit) commands.now
+        r.answers.items r.store.register.state) }
     ensures tables { IfOk result (λ r. IsTrue (file_state r.store.conn).is_open
         → Stands (file_state r.store.conn) (rows_of r.store.register.state)) }
     ensures refused { IfErr result IsOfStore }

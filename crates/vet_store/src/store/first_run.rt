@@ -11,6 +11,7 @@ ghost use Rattle.vet_store.specs.Classes.{AddsUp, HasClassesOfChains};
 ghost use Rattle.vet_store.specs.Crash.{LeavesRun};
 ghost use Rattle.vet_store.specs.Exact.{IsExactTurn};
 ghost use Rattle.vet_store.specs.Made.{HasMade, IsAsBefore, IsMade};
+ghost use Rattle.vet_tables.specs.Extends.{SparesOthers};
 ghost use Rattle.vet_tables.specs.Free.{AreFree};
 ghost use Rattle.vet_store.specs.Repeats.{IsTurnWithRepeats};
 ghost use Rattle.vet_store.specs.Runs.{Each, IsOfDone, IsOfStore, Ran};
@@ -65,6 +66,9 @@ impl<S: Alter + Drop, K: Keeper> Store<S, K> {
             r.answers.items r.store.register.state) }
         ensures tables { IfOk result (λ r.
             IsTied (state S.Store r.store.conn) r.store.shut (rows_of r.store.register.state)) }
+        ensures others { IfOk result (λ r. HasCleanDisk (state S.Store r.store.conn)
+            → IsTrue (state S.Store r.store.conn).is_open
+            → SparesOthers (state S.Store conn).now (state S.Store r.store.conn).now) }
         ensures leaves { IfOk result (λ r. LeavesRun (state S.Store r.store.conn) r.store.shut (start moves_limit)
             commands.now r.answers.items r.store.register.state) }
         ensures taken { (AreFree (state S.Store conn).now.schema → ⊥)

@@ -3,7 +3,7 @@
 //! **It has the state that was closed, and works like any store that was opened.** The connection of the closed store
 //! shows the rows of its state, and `open` makes that state and no other of tables with these rows. A refusal loses
 //! nothing: the tables still have these rows, also after a crash.
-ghost use Rattle.std.specs.Prelude.{◌≡◌, false, IfErr, IfOk, IsTrue, MatchResult};
+ghost use Rattle.std.specs.Prelude.{◌≡◌, ◌⊎◌, false, IfErr, IfOk, IsTrue, MatchResult};
 ghost use Rattle.sqlite.specs.Held.{state};
 ghost use Rattle.sqlite.specs.State.{HasCleanDisk, IsUnchanged, Survives};
 ghost use Rattle.vet_register.specs.Sound.{IsSound};
@@ -21,13 +21,14 @@ use super::Store;
 use crate::refused::Refused;
 use sqlite::Alter;
 use std::alloc::Global;
+use vet_base::refusal::Refusal;
 use vet_graph::keeper::Keeper;
 use vet_rows::held_register::register_is_held;
 
 impl<S: Alter + Drop, K: Keeper> Store<S, K> {
     /// Closes the store, and opens it again on its connection. Nothing is written. Asks for a store that is not shut. A
-    /// refusal gives the connection back. Refused, as long as the connection serves on a clean disk: `NoMemory` or
-    /// `StoreRefused`.
+    /// refusal gives the connection back. Refused: `NoMemory`, `StoreRefused`, or `NotARegister` if the connection no
+    /// longer serves or its disk is not clean.
     pub fn reopen(self, alloc: Global) -> Result<Store<S, K>, Refused<S>>
         requires { self.shut ≡ false }
         ensures same { IfOk result (λ s. HasCleanDisk (state S.Store s.conn)
@@ -45,6 +46,7 @@ impl<S: Alter + Drop, K: Keeper> Store<S, K> {
             → IsUnchanged (state S.Store self.conn) (state S.Store s.conn)) }
         ensures refused { IfErr result (λ e. HasCleanDisk (state S.Store e.conn)
             → IsTrue (state S.Store e.conn).is_open → IsOfStore e.refusal) }
+        ensures listed { IfErr result (λ e. IsOfStore e.refusal ⊎ (e.refusal ≡ Refusal.NotARegister)) }
         ensures autocommit { IfErr result (λ e. e.conn.in_transaction ≡ false) }
         ensures as_before { IfErr result (λ e. HasCleanDisk (state S.Store e.conn)
             → IsTrue (state S.Store e.conn).is_open → IsAsBefore (state S.Store self.conn) (state S.Store e.conn)) }

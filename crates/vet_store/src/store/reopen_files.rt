@@ -73,8 +73,8 @@ impl<D: Disk + Drop> ReopenError<D> {
 
 impl<D: Disk + Drop, K: Keeper> Store<FileStore<D>, K> {
     /// Closes the files of the store, opens them again with these options, and reads the register. The files of a store
-    /// that is shut cannot be closed, so it is refused. A refusal gives back what remains. Refused: `NoMemory` or
-    /// `StoreRefused`, as long as a connection that remains serves on a clean disk.
+    /// that is shut cannot be closed, so it is refused. A refusal gives back what remains. Refused: `NoMemory`,
+    /// `StoreRefused`, or `NotARegister` if a connection remains that no longer serves or whose disk is not clean.
     pub fn reopen_files(
         self,
         alloc: Global,

@@ -4,6 +4,7 @@ use Rattle.sqlite.specs.State.{HasCleanDisk, Survives}
 use Rattle.vet_base.specs.declared.refusal.Refusal.TheVariants.{NoMemory}
 use Rattle.vet_register.specs.State.{State, start}
 use Rattle.vet_rows.specs.RowsOf.{rows_of}
+use Rattle.vet_store.proofs.Sparing.{free_after_all, still_spared}
 use Rattle.vet_store.specs.Crash.{LeavesRun}
 use Rattle.vet_store.specs.Made.{HasMade, IsAsBefore, IsMade}
 use Rattle.vet_store.specs.StoreView.{StoreView}
@@ -16,6 +17,17 @@ returns-in-Ok-run_all-clause-leaves g c =
     subst (λ (s : State). LeavesRun (state g.S.Store last.conn) last.shut s c.args.commands.now
     c.in-Ok-run_all.answers.items last.register.state) c.in-Ok.ensures.start
     (c.in-Ok-run_all.ensures.leaves c.in-Ok.ensures.tables.0)
+
+pub returns-in-Ok-run_all-clause-others : goal.returns-in-Ok-run_all-clause-others
+returns-in-Ok-run_all-clause-others g c clean serves =
+    let old = state g.S.Store c.args.conn in
+    let mid = state g.S.Store c.in-Ok.store.conn in
+    let new = state g.S.Store c.run_all.new.self.conn in
+    let made = c.in-Ok.ensures in
+    let stayed = c.run_all.ensures.others clean serves in
+    let stands = made.tables.1.stands stayed.0 stayed.1.0 in
+    still_spared old.now mid.now new.now (rows_of c.in-Ok.store.register.state)
+    (free_after_all old.now.schema made.taken) (made.others stayed.0) stands.holds stayed.1.1
 
 pub returns-in-Err-run_all-clause-taken : goal.returns-in-Err-run_all-clause-taken
 returns-in-Err-run_all-clause-taken g c taken = absurd (c.in-Ok.ensures.taken taken)

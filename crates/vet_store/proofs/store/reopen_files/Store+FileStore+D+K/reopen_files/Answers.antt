@@ -50,17 +50,20 @@ returns-in-Err-open-clause-refused g c =
       c.refused-in-Err-open.ensures.refusal,
       c.into_parts-refusal.ensures.refusal,
       c.into_parts-refusal.ensures.conn,
-    ) (λ clean serves. elim c.in-Err-open.ensures.refused [
-      | inl of_store ↦ of_store
-      | inr none ↦
-          (let early = still_clean (file_state again) (file_state c.in-Err-open.not_opened.conn)
-          (IsTakenOver (file_state again)) c.in-Err-open.ensures.crash clean in
-          let found = c.in-Ok-open_files.ensures.found early in
-          absurd
-          (c.in-Err-open.ensures.none none clean s
-          (stored_again c.close.result again c.in-Ok.files c.args.self.shut s c.close.ensures.tables sound held
-          (c.in-Ok.ensures.copied found.honest) found (c.in-Ok-open_files.ensures.opened early))))
-    ])
+    ) (
+      c.in-Err-open.ensures.refused,
+      λ clean serves. elim c.in-Err-open.ensures.refused [
+        | inl of_store ↦ of_store
+        | inr none ↦
+            (let early = still_clean (file_state again) (file_state c.in-Err-open.not_opened.conn)
+            (IsTakenOver (file_state again)) c.in-Err-open.ensures.crash clean in
+            let found = c.in-Ok-open_files.ensures.found early in
+            absurd
+            (c.in-Err-open.ensures.none none clean s
+            (stored_again c.close.result again c.in-Ok.files c.args.self.shut s c.close.ensures.tables sound held
+            (c.in-Ok.ensures.copied found.honest) found (c.in-Ok-open_files.ensures.opened early))))
+      ],
+    )
 
 -- ---- what is opened
 
