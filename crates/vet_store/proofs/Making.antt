@@ -68,6 +68,7 @@ fills a b c first change made changes = record {
   is_open = changes.is_open;
   committed = changes.committed ∙ made.committed;
   inside = changes.inside;
+  unused = λ n high. made.unused n high (few n);
   fills = λ rows was.
       let holds = all_hold a b first rows made was in
       let spares = changes.spares holds.has in

@@ -8,7 +8,7 @@ use Rattle.vet_store.specs.Stands.{Holds, HoldsFirst, Stands}
 use Rattle.vet_tables.specs.Read.{Rests}
 use Rattle.vet_store.specs.Tied.{Leaves}
 use Rattle.vet_tables.specs.Extends.{AddsTables, SparesOthers}
-use Rattle.vet_tables.specs.Free.{AreFree}
+use Rattle.vet_tables.specs.Free.{AreFree, AreUnusedFrom}
 
 -- the trees of a database that has these rows, if the connection was at rest and no name was taken
 abbrev pub IsMade : State → RowsValue → Trees → Type 0
@@ -38,5 +38,6 @@ pub record FillsTables (first : ℕ) (old new : State) (change : RowsValue → R
   pub is_open : IsTrue new.is_open
   pub committed : new.committed ≡ old.committed
   pub inside : IsTrue new.in_transaction
+  pub unused : AreUnusedFrom first old.now.schema
   pub fills : (rows : RowsValue) → HoldsFirst first old.now rows
       → Holds new.now (change rows) × AddsTables first old.now new.now

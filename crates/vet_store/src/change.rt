@@ -10,6 +10,7 @@ ghost use Rattle.vet_tables.specs.Contents.{KeepsOthers};
 ghost use Rattle.vet_store.specs.Committed.{IsAfter, IsBefore};
 ghost use Rattle.vet_store.specs.Made.{IsFilled};
 ghost use Rattle.vet_tables.specs.Extends.{AddsTables};
+ghost use Rattle.vet_tables.specs.Free.{AreUnusedFrom};
 ghost use Rattle.vet_store.specs.Stands.{HoldsFirst, Stands};
 ghost use Rattle.vet_tables.specs.Read.{Rests};
 
@@ -85,6 +86,8 @@ pub fn make_tables<S: Alter>(
         (rows : _) → Rests (state S.Store conn.old) → HoldsFirst first (state S.Store conn.old).now rows
         → Stands (state S.Store conn.new) (all_changed changes.now rows)
         × AddsTables first (state S.Store conn.old).now (state S.Store conn.new).now) }
+    ensures unused { HasCleanDisk (state S.Store conn.new) → OnOk result (
+        AreUnusedFrom first (state S.Store conn.old).now.schema) }
     ensures opens { HasCleanDisk (state S.Store conn.new) → OnOk result (IsTrue (state S.Store conn.old).is_open) }
     ensures kept { HasCleanDisk (state S.Store conn.new) → IsTrue (state S.Store conn.new).is_open → OnErr result (
         Rests (state S.Store conn.old) → Rests (state S.Store conn.new)

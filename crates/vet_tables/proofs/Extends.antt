@@ -59,6 +59,13 @@ module _ {X : Type 0} (p : X → Bool) where
     | inr a ↦ rw a (placed_after xs ys (k + 1) (rw a at none) ∙ ap (λ j. position_from p j ys) (omega arith))
   ]
 
+  placed_before : (xs ys : List X) (k : ℕ) → position_from p k (xs ++ ys) ≡ None → position_from p k xs ≡ None
+  placed_before [] ys k none = refl
+  placed_before (x ∷ xs) ys k none = elim (cases_Bool (p x)) [
+    | inl a ↦ absurd (let e = rw a at none in cc)
+    | inr a ↦ rw a (placed_before xs ys (k + 1) (rw a at none))
+  ]
+
   placed_nowhere : (xs : List X) (k : ℕ) → AllByRecursion (λ x. p x ≡ false) xs → position_from p k xs ≡ None
   placed_nowhere [] k all = refl
   placed_nowhere (x ∷ xs) k all = rw all.0 (placed_nowhere xs (k + 1) all.1)
@@ -161,6 +168,19 @@ unused schema name free = go (table_named schema name) (index_named schema name)
     go (Some a) b c e = absurd (true≢false e)
     go None (Some b) c e = absurd (true≢false e)
     go None None (Some c) e = absurd (true≢false e)
+
+-- a name that is unused in the end was unused at first
+pub unused_before : (old new : Database) (name : List ℕ) → Extends old new → is_used new.schema name ≡ false
+    → is_used old.schema name ≡ false
+unused_before old new name more free =
+    let none = unused new.schema name free in
+    let a : table_named old.schema name ≡ None = placed_before _ old.schema.tables more.tables 0
+    (sym (ap (position_from (λ (t : Table). same_name t.name name) 0) more.tables_are) ∙ none.0) in
+    let b : index_named old.schema name ≡ None = placed_before _ old.schema.indexes more.indexes 0
+    (sym (ap (position_from (λ (i : Index). same_name i.name name) 0) more.indexes_are) ∙ none.1) in
+    let c : view_named old.schema name ≡ None =
+    sym (ap (position_from (λ (w : View). same_name w.name name) 0) more.views_are) ∙ none.2 in
+    rw (a, b, c)
 
 -- a name that no new table or index has stays free
 pub still_free : (old new : Database) (name : List ℕ) (more : Extends old new)

@@ -11,7 +11,7 @@ use Rattle.sqlite.specs.Effect.{Database, IsDatabase}
 use Rattle.sqlite.specs.declared.run.Mode.{Mode}
 use Rattle.sqlite_catalog.proofs.StepLemmas.{table_below}
 use Rattle.sqlite_catalog.specs.Calls.{CreatesTable}
-use Rattle.sqlite_catalog.specs.Change.{KeepsRows, automatics, created, next_tree}
+use Rattle.sqlite_catalog.specs.Change.{KeepsRows, automatics, created, is_used, next_tree}
 use Rattle.sqlite_resolve.specs.Compile.{table_defined_by}
 use Rattle.sqlite_resolve.specs.Lowering.{Checked}
 use Rattle.sqlite_rules.proofs.ListLemmas.{all_from, test_from, test_has}
@@ -226,7 +226,19 @@ counted_too n db mid after here made =
     ap (λ (s : Schema). record { schema = s; trees = after.trees }) schema in
     subst (λ d. Gains db d n) (sym whole) (with_sequence n db mid after.trees made.others here)
 
--- CREATE TABLE of one of our tables
+-- CREATE TABLE of one of our tables finds its name unused
+pub finds_unused : (n : TableName) (limit : Option ℕ) (mode : Mode) (db after : Database) (tally : Tally)
+    → Does limit mode [] db (create_text (form_of n)) None does.CreateTable (Ok (tally, after))
+    → is_used db.schema (form_of n).name ≡ false
+finds_unused n limit mode db after tally done =
+    let all = went done in
+    let first = went all.1 in
+    let made = first.1 in
+    let both : ◌≡◌ {A = Checked Table} (Ok made.table) (Ok (table_of (form_of n) 0)) = sym made.defined ∙ defines n in
+    let table : made.table ≡ table_of (form_of n) 0 = cc in
+    subst (λ (t : Table). is_used db.schema t.name ≡ false) table made.free
+
+-- it makes the table
 pub finds : (n : TableName) (limit : Option ℕ) (mode : Mode) (db after : Database) (tally : Tally)
     → Does limit mode [] db (create_text (form_of n)) None does.CreateTable (Ok (tally, after)) → Gains db after n
 finds n limit mode db after tally done =

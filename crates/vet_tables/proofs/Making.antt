@@ -1,5 +1,5 @@
 -- The tables are made one after another.
-use Rattle.std.proofs.Common.{◌≡◌, inl, inr, List, [], ◌++◌, ◌+◌, ◌<◌, ◌≤◌, ℕ, IsTrue, None, Ok, Err, Result}
+use Rattle.std.proofs.Common.{◌≡◌, false, inl, inr, List, [], ◌++◌, ◌+◌, ◌<◌, ◌≤◌, ℕ, IsTrue, None, Ok, Err, Result}
 use Rattle.std.proofs.Common.{OnOk, refl, sym, ap, subst, ◌∙◌, arith, eq-or-lt_of_le}
 use Rattle.std.proofs.lemmas.Bool.{true≢false}
 use Rattle.sqlite.specs.Command.TheVariants.{CreateTable}
@@ -8,13 +8,15 @@ use Rattle.sqlite.specs.Effect.{Database}
 use Rattle.sqlite.specs.State.{ExecutesInside, State, mode_of}
 use Rattle.sqlite.specs.declared.error.Error.{Error}
 use Rattle.sqlite_catalog.proofs.ListFacts.{none_placed}
+use Rattle.sqlite_catalog.specs.Change.{is_used}
 use Rattle.sqlite_rules.specs.Lists.{Has}
 use Rattle.sqlite_schema.specs.Names.{same_name}
 use Rattle.sqlite_schema.specs.declared.schema.Schema.{Schema}
 use Rattle.sqlite_schema.specs.declared.schema.Table.{Table}
 use Rattle.vet_tables.proofs.Creates.{create_is, text_whole}
 use Rattle.vet_tables.proofs.Extends.{extends_none, extends_then, has_either, has_front, still_has, still_rows, unused}
-use Rattle.vet_tables.proofs.Makes.{finds, named_itself}
+use Rattle.vet_tables.proofs.Extends.{unused_before}
+use Rattle.vet_tables.proofs.Makes.{finds, finds_unused, named_itself}
 use Rattle.vet_tables.proofs.Steps.{ran}
 use Rattle.vet_tables.proofs.TablePlaces.{same_or_other}
 use Rattle.vet_tables.specs.Contents.{IsOther}
@@ -39,6 +41,7 @@ make_step n old new count h =
       committed = h.1.committed_is;
       inside = rw h.1.mode;
       sound = write.sound;
+      unused = finds_unused n old.step_limit (mode_of old) old.now new.now write.tally done;
       gains = finds n old.step_limit (mode_of old) old.now new.now write.tally done;
     }
 
@@ -54,6 +57,7 @@ makes_none a first serves inside = record {
   committed = refl;
   inside = inside;
   sound = λ sound. sound;
+  unused = λ n high low. absurd (omega (arith, high, low));
   extends = extends_none a.now;
   has = λ sound free n high low. absurd (omega (arith, high, low));
   frees = λ free. free;
@@ -68,6 +72,12 @@ makes_more a b c first k n begun place one two = record {
   committed = two.committed ∙ one.committed;
   inside = two.inside;
   sound = λ sound. two.sound;
+  unused = λ m high low. elim (same_or_other m n) [
+    | inl same ↦
+        subst (λ name. is_used a.now.schema (form_of name).name ≡ false) (sym same)
+        (unused_before a.now b.now (form_of n).name one.extends two.unused)
+    | inr apart ↦ one.unused m high (below m apart low)
+  ];
   extends = extends_then a.now b.now c.now one.extends two.gains.extends;
   has = λ sound free m high low. elim (same_or_other m n) [
     | inl same ↦

@@ -17,6 +17,10 @@ pub record IsFree (schema : Schema) (name : Name) : Type 0 where
 abbrev pub AreFreeFrom : ℕ → Schema → Type 0
 AreFreeFrom first schema = (name : TableName) → first ≤ code name → IsFree schema (form_of name).name
 
+-- no table, index or view has the name of one of the tables from a given place on, in any case of its ASCII letters
+abbrev pub AreUnusedFrom : ℕ → Schema → Type 0
+AreUnusedFrom first schema = (name : TableName) → first ≤ code name → is_used schema (form_of name).name ≡ false
+
 -- the names of all tables are free
 abbrev pub AreFree : Schema → Type 0
 AreFree schema = AreFreeFrom 0 schema

@@ -8,6 +8,7 @@ use Rattle.vet_store.proofs.change.make_tables.Goals as goal
 use Rattle.vet_store.specs.Made.{IsFilled}
 use Rattle.vet_tables.specs.Cells.{RowsValue}
 use Rattle.vet_tables.specs.Extends.{AddsTables}
+use Rattle.vet_tables.specs.Free.{AreUnusedFrom}
 use Rattle.vet_store.specs.Stands.{HoldsFirst, Stands}
 use Rattle.vet_tables.specs.Read.{Rests}
 
@@ -90,6 +91,19 @@ returns-in-Ok-clause-opens g c =
     let early : HasCleanDisk (state g.S.Store mid) = omega (arith, c.commit.ensures.survives.clean) in
     let kept = rw begun at (c.fill.ensures.kept early) in
     kept.was_open (c.in-Ok.ensures.ok clean).1.was_open)
+
+pub returns-in-Ok-clause-unused : goal.returns-in-Ok-clause-unused
+returns-in-Ok-clause-unused g c =
+    let old = state g.S.Store c.args.conn.now in
+    let end = c.commit.new.self.0 in
+    let begun = c.transaction-tx.ensures.begun in
+    let same : end ≡ c.conn-2-1.given.0 = search rules in
+    subst (λ h. HasCleanDisk (state g.S.Store h) → AreUnusedFrom c.args.first old.now.schema) same (λ clean.
+    let early : HasCleanDisk (state g.S.Store c.fill.new.tx.conn.now) =
+    omega (arith, c.commit.ensures.survives.clean) in
+    let kept = rw begun at (c.fill.ensures.kept early) in
+    let serves = kept.was_open (c.in-Ok.ensures.ok clean).1.was_open in
+    (rw begun at (c.in_default.ensures.fills early (rw begun serves) (rw begun refl))).unused)
 
 pub returns-in-Err-commit-clause-reaches : goal.returns-in-Err-commit-clause-reaches
 returns-in-Err-commit-clause-reaches g c =
