@@ -1,7 +1,7 @@
 //! Values read from columns. **What was written of a value is read as that value, unless memory runs out.**
 //!
-//! Any other column gives `NotARegister` or some value, and no clause says which, but for `flag`: there it always
-//! gives `NotARegister`. The functions that take an allocator may also return `NoMemory`.
+//! Any other number gives `NotARegister`. Any other text or bytes give `NotARegister` or some value, and no clause says
+//! which. The functions that take an allocator may also return `NoMemory`.
 ghost use Rattle.std.specs.Prelude.{◌≡◌, ℕ, Bool, IfErr, IfOk, Ok, Option, Some, map, pos};
 ghost use Rattle.vet_base.specs.Day.{DayValue, day_number};
 ghost use Rattle.vet_base.specs.Req.{IsReq};
@@ -148,7 +148,9 @@ pub(crate) fn flag(number: i64) -> Result<Option<bool>, ReadError>
 
 /// A number, which is not negative. Takes no memory.
 pub fn number(column: i64) -> Result<u64, ReadError>
-    ensures { (n : ℕ) → column ≡ pos n → result ≡ Ok n }
+    ensures read { (n : ℕ) → column ≡ pos n → result ≡ Ok n }
+    ensures only { IfOk result (λ n. column ≡ pos n) }
+    ensures refused { IfErr result (λ e. e ≡ ReadError.NotARegister) }
 {
     if column < 0 {
         return Err(ReadError::NotARegister);
@@ -158,14 +160,18 @@ pub fn number(column: i64) -> Result<u64, ReadError>
 
 /// A user. Takes no memory.
 pub(crate) fn user(column: i64) -> Result<User, ReadError>
-    ensures { (u : ℕ) → column ≡ pos u → IsUser u → result ≡ Ok u }
+    ensures read { (u : ℕ) → column ≡ pos u → IsUser u → result ≡ Ok u }
+    ensures only { IfOk result (λ u. column ≡ pos u) }
+    ensures refused { IfErr result (λ e. e ≡ ReadError.NotARegister) }
 {
     found(User::new(number(column)?))
 }
 
 /// A day. Takes no memory.
 pub fn day(column: i64) -> Result<Day, ReadError>
-    ensures { (d : DayValue) → column ≡ day_number d → IsDay d → result ≡ Ok d }
+    ensures read { (d : DayValue) → column ≡ day_number d → IsDay d → result ≡ Ok d }
+    ensures only { IfOk result (λ d. column ≡ day_number d) }
+    ensures refused { IfErr result (λ e. e ≡ ReadError.NotARegister) }
 {
     found(Day::of_number(column))
 }

@@ -1,5 +1,5 @@
 //! Reading the rows of moves.
-ghost use Rattle.std.specs.Prelude.{◌≡◌, IfOk, List, MatchResult, Ok, Option, map};
+ghost use Rattle.std.specs.Prelude.{◌≡◌, IfErr, IfOk, List, MatchResult, Ok, Option, map};
 ghost use Rattle.std.specs.List.{All, AllPairs};
 ghost use Rattle.vet_base.specs.Items.{SameItems};
 ghost use Rattle.vet_graph.specs.declared.class.Class.{Class as ClassValue};
@@ -146,7 +146,9 @@ fn pair(alloc: Global, row: &Row) -> Result<Pair, ReadError>
 
 // A class by its number, or no class for 5. Takes no memory.
 fn class_or_none(column: i64) -> Result<Option<Class>, ReadError>
-    ensures { (class : Option ClassValue) → column ≡ class_or_none class → result ≡ Ok class }
+    ensures read { (class : Option ClassValue) → column ≡ class_or_none class → result ≡ Ok class }
+    ensures only { IfOk result (λ class. column ≡ class_or_none class) }
+    ensures refused { IfErr result (λ e. e ≡ ReadError.NotARegister) }
 {
     match column {
         0 => Ok(Some(Class::Conflicting)),

@@ -1,6 +1,9 @@
 use Rattle.std.proofs.Common.{◌≡◌, rules}
 use Rattle.vet_item_rows.proofs.read.publishers.publisher.Goals as goal
 
+pub returns-in_err-day : goal.returns-in_err-day
+returns-in_err-day c f stands = cc (c.in_err-day.ensures.read f.item.day (search rules) (search rules))
+
 pub returns : goal.returns
 returns c f stands =
     let of_version : c.in_ok-version.field-0 ≡ f.item.version = search rules in

@@ -12,7 +12,7 @@ pub returns-in_err-number : goal.returns-in_err-number
 returns-in_err-number c held (can, is) =
     let int0 = column c.in_ok-int_at.field-0 (pos held.number) (search rules) (c.in_ok-int_at.ensures (pos held.number)
     (place 0 is)) in
-    cc (c.in_err-number.ensures held.number int0)
+    cc (c.in_err-number.ensures.read held.number int0)
 
 pub returns-in_err-entry : goal.returns-in_err-entry
 returns-in_err-entry c held (can, is) =
@@ -23,6 +23,6 @@ pub returns : goal.returns
 returns c held (can, is) =
     let int0 = column c.in_ok-int_at.field-0 (pos held.number) (search rules) (c.in_ok-int_at.ensures (pos held.number)
     (place 0 is)) in
-    let number : c.in_ok-number.field-0 ≡ held.number = cc (c.in_ok-number.ensures held.number int0) in
+    let number : c.in_ok-number.field-0 ≡ held.number = cc (c.in_ok-number.ensures.read held.number int0) in
     let entry = c.in_ok-entry.ensures held (can, is) in
     λ i. record { number = number i; entry = entry i }
