@@ -10,6 +10,7 @@ import socket
 import sqlite3
 import subprocess
 import sys
+import threading
 from concurrent.futures import ThreadPoolExecutor
 
 ROOT = os.path.dirname(os.path.dirname(os.path.dirname(os.path.abspath(__file__))))
@@ -30,17 +31,44 @@ PHRASES = {
 # the status of each refusal that has another than 409, by its number
 STATUSES = dict.fromkeys((1, 2, 3, 4, 5, 26, 27, 28), 400) | {18: 413, 29: 503, 30: 503}
 TEXT, CSV, TOML = "text/plain; charset=utf-8", "text/csv; charset=utf-8", "application/toml"
-# ports that the system gives to no client, in turn from a random one, so that scripts can run side by side
-FIRST_PORT, PORT_COUNT = 10_000, 22_000
-DRAWN = random.randrange(PORT_COUNT)
-PORTS = itertools.cycle([FIRST_PORT + (DRAWN + at) % PORT_COUNT for at in range(PORT_COUNT)])
+# Ports that the system gives to no client, in blocks. A port that one script has probed is free for any other until its
+# program listens, so each process probes in blocks of its own.
+FIRST_PORT, BLOCK_SIZE, BLOCK_COUNT, MOST_BLOCKS = 10_000, 100, 220, 20
 
 
-def share_ports(place, count):
-    """Leaves this process a share of the ports, so that none of this many processes takes the port of another."""
-    global PORTS
-    own = range(DRAWN + place, DRAWN + PORT_COUNT, count)
-    PORTS = itertools.cycle([FIRST_PORT + at % PORT_COUNT for at in own])
+def claim(block):
+    """Claims a block by a name that is free again when this process ends. Returns whether no other process has it."""
+    name = socket.socket(socket.AF_UNIX)
+    try:
+        name.bind(f"\0vetd-tests-{block}")
+    except OSError:
+        name.close()
+        return False
+    CLAIMS.append(name)
+    return True
+
+
+def own_ports():
+    """The ports of the blocks that this process claims when it needs them, and then the same ports again."""
+    own = []
+    for block in random.sample(range(BLOCK_COUNT), BLOCK_COUNT):
+        if len(own) < MOST_BLOCKS * BLOCK_SIZE and claim(block):
+            first = FIRST_PORT + block * BLOCK_SIZE
+            own += range(first, first + BLOCK_SIZE)
+            yield from own[-BLOCK_SIZE:]
+    if not own:
+        raise OSError("other processes have all ports of the tests")
+    yield from itertools.cycle(own)
+
+
+def begin_ports():
+    """Gives this process, which another one may have forked, ports of its own."""
+    global CLAIMS, PORTS, DRAWING
+    CLAIMS, PORTS, DRAWING = [], own_ports(), threading.Lock()
+
+
+begin_ports()
+os.register_at_fork(after_in_child=begin_ports)
 
 
 def compare(what, found, expected):
@@ -73,14 +101,13 @@ def request_of(method, target, body=None, fields=()):
 
 
 def free_port():
-    """A port at which nobody listens."""
-    for port in PORTS:
-        with socket.socket() as probe:
-            try:
-                probe.bind(("127.0.0.1", port))
-                return port
-            except OSError:
-                continue
+    """A port at which nobody listens, and which no other process draws."""
+    while True:
+        with DRAWING:
+            port = next(PORTS)
+        with socket.socket() as probe, contextlib.suppress(OSError):
+            probe.bind(("127.0.0.1", port))
+            return port
 
 
 class NotListening(AssertionError):
