@@ -97,15 +97,15 @@ class Trial:
         return taken
 
     def tried(self, edits):
-        """Each edit with what came of it."""
-        left, came_of = list(edits), {}
+        """Each edit with what came of it, as soon as that is known."""
+        left = list(edits)
         while left:
             taken = self.batch(left)
             told = self.check(taken)
             found = self.judge(taken, told) or self.at_fault(taken, told)
-            came_of |= self.second_looks(found, told)
-            left = [edit for edit in left if edit not in came_of]
-        return came_of
+            found = self.second_looks(found, told)
+            yield from found.items()
+            left = [edit for edit in left if edit not in found]
 
     def at_fault(self, edits, told):
         """What came of edits on which there was no verdict: one of them is none, or hides the others."""
